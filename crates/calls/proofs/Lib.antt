@@ -1,0 +1,3 @@
+pub mod Readings
+pub mod Packing
+pub mod Answering

@@ -1,0 +1,13 @@
+pub mod Parity
+pub mod Rows
+pub mod Tracks
+pub mod Settle
+pub mod Pivots
+pub mod Kernel
+pub mod Tally
+pub mod Count
+pub mod Update
+pub mod Whole
+pub mod Alternative
+pub mod Left
+pub mod Blocks

@@ -1,0 +1,11 @@
+pub mod Listed
+pub mod Wires
+pub mod Pressed
+pub mod Tables
+pub mod Counted
+pub mod Answered
+pub mod AnyOrder
+pub mod EvenQuiet
+pub mod EveryBoard
+pub mod SideBySide
+pub mod Boards

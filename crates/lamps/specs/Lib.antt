@@ -1,0 +1,4 @@
+pub mod Lamps
+pub mod Calls
+pub mod Promise
+pub mod Boards

@@ -1,0 +1,4 @@
+pub mod Readers
+pub mod Lines
+pub mod Printed
+pub mod Laws

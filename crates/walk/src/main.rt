@@ -1,0 +1,150 @@
+// Long lists of calls at random, on a session that keeps its steps and on one that starts from nothing before each answer: both have to say the same.
+use std::alloc::AllocError;
+use std::alloc::Global;
+use std::error::AnyError;
+use wires::Board;
+
+// The memory of a board.
+#[derive(Drop)]
+struct Memory {
+    wires: Vec<u64>,
+    rows: Vec<u64>,
+    done: Vec<u64>,
+    pivots: Vec<u16>,
+    lit: Vec<u64>,
+    marks: Vec<u64>,
+}
+
+impl Memory {
+    fn new(heap: Global, lamps: u16) -> Result<Self, AllocError> {
+        let width = (lamps as usize + 63) / 64;
+        let table = lamps as usize * width;
+        Ok(Memory {
+            wires: vec![in heap; 0u64; table]?,
+            rows: vec![in heap; 0u64; table]?,
+            done: vec![in heap; 0u64; table]?,
+            pivots: vec![in heap; 0u16; lamps as usize]?,
+            lit: vec![in heap; 0u64; width]?,
+            marks: vec![in heap; 0u64; width]?,
+        })
+    }
+
+    fn open(&mut self, lamps: u16) -> Option<Board> {
+        let Ok(board) = session::open(
+            lamps,
+            &mut self.wires,
+            &mut self.rows,
+            &mut self.done,
+            &mut self.pivots,
+            &mut self.lit,
+            &mut self.marks,
+        ) else {
+            return None;
+        };
+        Some(board)
+    }
+
+    // How many bytes the answer has, or none where memory is too short.
+    fn call(&mut self, board: Board, bytes: &[u8], answer: &mut [u8]) -> usize {
+        let Ok(written) = session::call(
+            board,
+            &mut self.wires,
+            &mut self.rows,
+            &mut self.done,
+            &mut self.pivots,
+            &mut self.lit,
+            &mut self.marks,
+            bytes,
+            answer,
+        ) else {
+            return 0;
+        };
+        written
+    }
+}
+
+// The next number of a sequence that looks random, by its seed.
+fn random(seed: &mut u64) -> u64 {
+    *seed = seed.wrapping_add(0x9E37_79B9_7F4A_7C15);
+    let a = *seed;
+    let b = (a ^ (a >> 30)).wrapping_mul(0xBF58_476D_1CE4_E5B9);
+    let c = (b ^ (b >> 27)).wrapping_mul(0x94D0_49BB_1331_11EB);
+    c ^ (c >> 31)
+}
+
+// The bytes of two answers have the same first byte and as many bits set.
+fn alike(a: &[u8], b: &[u8]) -> bool {
+    let mut bits = 0u64;
+    let mut others = 0u64;
+    for byte in a {
+        bits = bits.wrapping_add(byte.count_ones() as u64);
+    }
+    for byte in b {
+        others = others.wrapping_add(byte.count_ones() as u64);
+    }
+    match (a, b) {
+        ([first, ..], [other, ..]) => *first == *other && bits == others,
+        _ => false,
+    }
+}
+
+// A lamp of two bytes, at random.
+fn lamp(seed: &mut u64, lamps: u16) -> [u8; 2] {
+    if lamps == 0 {
+        return [0, 0];
+    }
+    ((random(seed) % lamps as u64) as u16).to_le_bytes()
+}
+
+// Whether both sessions answer a call of one byte alike.
+fn ask(kept: &mut Memory, fresh: &mut Memory, board: Board, call: u8) -> bool {
+    let mut one = [0u8; 160];
+    let mut other = [0u8; 160];
+    let a = kept.call(board, &[call], &mut one);
+    let b = fresh.call(board, &[call], &mut other);
+    0 < a && a <= 160 && b == a && alike(&one[0..a], &other[0..a])
+}
+
+// One wire comes or goes and one lamp is turned; then both sessions are asked for presses and ways.
+fn step(kept: &mut Memory, fresh: &mut Memory, board: Board, seed: &mut u64) -> bool {
+    let mut answer = [0u8; 160];
+    let i = lamp(seed, board.lamps);
+    let j = lamp(seed, board.lamps);
+    let k = lamp(seed, board.lamps);
+    let _ = kept.call(board, &[0, i[0], i[1], j[0], j[1]], &mut answer);
+    let _ = kept.call(board, &[1, k[0], k[1]], &mut answer);
+    if fresh.open(board.lamps).is_none()
+        || fresh.wires.len() != kept.wires.len()
+        || fresh.lit.len() != kept.lit.len()
+    {
+        return false;
+    }
+    fresh.wires.copy_from_slice(&kept.wires);
+    fresh.lit.copy_from_slice(&kept.lit);
+    ask(kept, fresh, board, 4) && ask(kept, fresh, board, 5)
+}
+
+// How many of `steps` steps on a board of so many lamps were answered alike.
+fn walk(heap: Global, lamps: u16, steps: u16, seed: u64) -> Result<u16, AllocError> {
+    let mut kept = Memory::new(heap, lamps)?;
+    let mut fresh = Memory::new(heap, lamps)?;
+    let mut state = seed;
+    let Some(board) = kept.open(lamps) else {
+        return Ok(0);
+    };
+    let mut same = 0u16;
+    for _ in 0..steps {
+        if step(&mut kept, &mut fresh, board, &mut state) {
+            same = same.saturating_add(1);
+        }
+    }
+    Ok(same)
+}
+
+fn main(rt: LibcRuntime) -> Result<(), AnyError> {
+    for lamps in [1u16, 2, 7, 24, 64, 65, 130, 257] {
+        let same = walk(rt.alloc(), lamps, 300, 20261118)?;
+        println!(rt, "{lamps} lamps: {same} of 300 steps alike")?;
+    }
+    Ok(())
+}
