@@ -1,0 +1,4 @@
+pub mod Asked
+pub mod Grids
+pub mod Made
+pub mod Shown
