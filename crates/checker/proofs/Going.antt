@@ -14,7 +14,8 @@ use Rattle.std.specs.declared.option.Option.the-variants.{None}
 use Rattle.lamps.specs.Calls.{Board as Wall}
 use Rattle.wires.specs.declared.board.Board.{Board}
 use Rattle.checker.specs.Replies.{said, next, Small, Held, Answered}
-use Rattle.checker.specs.Texts.{line-for, lines-from, Verdicts}
+use Rattle.lines.specs.Texts.{lines-from}
+use Rattle.checker.specs.Texts.{line-for, Verdicts}
 use Rattle.checker.specs.declared.Reply.{Reply}
 
 -- the bytes of the text from one place to another

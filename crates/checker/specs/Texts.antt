@@ -1,15 +1,14 @@
--- The lines of a text, and the text of its answers. Assumes nothing: these are definitions.
+-- The text of the answers. Assumes nothing: these are definitions.
 use mathlib.Core.Path.{_≡_}
-use mathlib.Core.Bool.{cond}
 use mathlib.Core.List.{List, [], _∷_, _++_}
 use Prim.Native.Nat.{ℕ}
 use lib.Chars.{codes}
-use lib.Dec.{eqb}
 use Rattle.std.specs.Written.{decimal}
 use Rattle.std.specs.declared.option.Option.{Option}
 use Rattle.lamps.specs.Calls.{Board as Wall}
 use Rattle.claims.specs.declared.Verdict.{Verdict}
 use Rattle.claims.specs.declared.Verdict.the-variants.{Right, Lamp, Even}
+use Rattle.lines.specs.Texts.{refusal-line}
 use Rattle.checker.specs.Replies.{said, Replies, next}
 use Rattle.checker.specs.declared.Reply.{Reply}
 use Rattle.checker.specs.declared.Reply.the-variants.{Nothing, Refused, Found}
@@ -22,13 +21,8 @@ line-found Even = codes "even\n"
 
 abbrev pub line-for : Reply → List ℕ
 line-for Nothing = []
-line-for (Refused k p) = codes "refused " ++ (decimal k ++ (codes " at " ++ (decimal p ++ codes "\n")))
+line-for (Refused k p) = refusal-line k p
 line-for (Found v) = line-found v
-
--- the lines of a text, of which the first has begun with `line`: a line ends before byte 10, the last where the text ends
-unfoldable pub lines-from : List ℕ → List ℕ → List (List ℕ)
-lines-from line [] = line ∷ []
-lines-from line (b ∷ bs) = cond (eqb b 10) (line ∷ lines-from [] bs) (lines-from (line ++ (b ∷ [])) bs)
 
 -- `out` answers the lines one after another, each rightly on the board that those before it left
 unfoldable pub Verdicts : Option Wall → List (List ℕ) → List ℕ → Type 0

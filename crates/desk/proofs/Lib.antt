@@ -1,3 +1,4 @@
 pub mod Taken
 pub mod Changed
 pub mod Told
+pub mod Rewired

@@ -11,6 +11,7 @@ ghost use Rattle.matrix.specs.Cells.{width-of};
 ghost use Rattle.bits.specs.Bits.{bit-of};
 ghost use Rattle.calls.specs.Saying.{lamps-of, meant, said};
 ghost use Rattle.desk.specs.Holding.{lent, refuses, Holds, Performs};
+ghost use Rattle.desk.specs.Rewired.{Two-rows-change};
 use calls::Answer;
 use calls::Call;
 use calls::Refusal;
@@ -195,4 +196,11 @@ pub fn perform(
         Call::Out => out(board, wires, rows, done, pivots, lit, marks, row),
         Call::Ways => Answer::Number(ways(board, wires, rows, done, pivots, lit, marks)),
     }
+}
+
+// A wire that comes or goes changes two rows, and the steps are those of the new rows. It does nothing: its contract is a theorem.
+pub fn two_rows_change() -> u8
+    ensures { λ _. ⌜ Two-rows-change ⌝ }
+{
+    0
 }
