@@ -72,18 +72,21 @@ fn random(seed: &mut u64) -> u64 {
     c ^ (c >> 31)
 }
 
-// The bytes of two answers have the same first byte and as many bits set.
+// How many bits are set in the bytes.
+fn bits(bytes: &[u8]) -> u64 {
+    let mut set = 0u64;
+    for byte in bytes {
+        set = set.wrapping_add(byte.count_ones() as u64);
+    }
+    set
+}
+
+// Whether two answers say the same: the same number, as few presses where they are the fewest, or the same kind of set.
 fn alike(a: &[u8], b: &[u8]) -> bool {
-    let mut bits = 0u64;
-    let mut others = 0u64;
-    for byte in a {
-        bits = bits.wrapping_add(byte.count_ones() as u64);
-    }
-    for byte in b {
-        others = others.wrapping_add(byte.count_ones() as u64);
-    }
     match (a, b) {
-        ([first, ..], [other, ..]) => *first == *other && bits == others,
+        ([1, low, high], [1, x, y]) => *low == *x && *high == *y,
+        ([3, ..], [3, ..]) => bits(a) == bits(b),
+        ([kind, ..], [other, ..]) => *kind == *other,
         _ => false,
     }
 }
