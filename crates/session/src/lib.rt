@@ -14,6 +14,32 @@ use calls::Answer;
 use calls::Refusal;
 use wires::Board;
 
+// How long the slices must be: in words each of the three tables and each of the two rows, in numbers the pivots, in bytes an answer.
+#[derive(Clone, Copy)]
+pub struct Sizes {
+    pub table: usize,
+    pub pivots: usize,
+    pub row: usize,
+    pub answer: usize,
+}
+
+// How long the slices must be for a board.
+pub fn asked(board: Board) -> Sizes
+    ensures tables { λ r. ⌜ r .table ≡ table-words (board .lamps) ⌝ }
+    ensures pivots { λ r. ⌜ r .pivots ≡ board .lamps ⌝ }
+    ensures rows { λ r. ⌜ r .row ≡ width-of (board .lamps) ⌝ }
+    ensures answer { λ r. ⌜ r .answer ≡ answer-bytes (board .lamps) ⌝ }
+{
+    let lamps = board.lamps as usize;
+    let row = board.width();
+    Sizes {
+        table: lamps * row,
+        pivots: lamps,
+        row,
+        answer: (lamps + 7) / 8 + 16,
+    }
+}
+
 // Whether every slice is as long as is asked for.
 fn long(
     board: Board,
