@@ -1,4 +1,4 @@
--- A call where there is no board, and where there is one. Assumes nothing.
+-- A call where there is a board. Assumes nothing.
 use mathlib.Core.Path.{_≡_, refl}
 use mathlib.Core.List.{List}
 use Prim.Native.Nat.{ℕ, _<_}
@@ -6,12 +6,7 @@ use native.Mathlib.Omega.{arith}
 use Rattle.std.specs.declared.option.Option.the-variants.{None, Some}
 use Rattle.lamps.specs.Calls.{Call, after}
 use Rattle.lamps.specs.Promise.{Memory}
-use Rattle.text.specs.Lines.{refusal}
 use Rattle.text.specs.Board.{Asks, in-use, Step, Tells}
-
-pub no-board : (c : Call) (m : Memory) (s : List ℕ) → m .lamps ≡ 0 → s ≡ refusal 1 0 → Step (Asks c) m m s
-no-board c m s z says None h = (None, (says, refl), h)
-no-board c m s z says (Some w) h = absurd (omega (arith, h .0, z))
 
 pub on-board : (c : Call) (m m′ : Memory) (s : List ℕ) → 0 < m .lamps → m′ .lamps ≡ m .lamps → Tells c (in-use m) (in-use m′) s → Step (Asks c) m m′ s
 on-board c m m′ s p many tells None h = absurd (omega (arith, p, h))

@@ -8,6 +8,7 @@ use lib.ListN.{length, take, drop}
 use Rattle.session.proofs.Parts.{part, lent-same}
 use Rattle.std.specs.Of.String.{string-bytes}
 use Rattle.std.specs.Vec.{made}
+use Rattle.std.specs.declared.option.Option.{Option}
 use Rattle.std.specs.declared.result.Result.{Result}
 use Rattle.std.specs.declared.result.Result.the-variants.{Ok, Err}
 use Rattle.std.specs.declared.string.String.{String}
@@ -16,10 +17,10 @@ use Rattle.lamps.specs.Lamps.{Wire, wired}
 use Rattle.lamps.specs.Boards.{wire}
 use Rattle.lamps.specs.Promise.{Memory}
 use Rattle.desk.specs.Holding.{lent, Holds, Performs}
-use Rattle.text.specs.Lines.{refusal, told}
+use Rattle.text.specs.Lines.{told}
 use Rattle.text.specs.Board.{Asks, dark, in-use, Step, Tells, Comes}
 use Rattle.text.proofs.Grids.{comes}
-use Rattle.text.proofs.Asked.{no-board, on-board}
+use Rattle.text.proofs.Asked.{on-board}
 
 module _ {Z E : Type 0} (c : Call) (m m′ : Memory) where
   pub tells-made : (r : Result (String Z) E) (a : Answer) → ((b : Board) → Holds m b → Performs m m′ b c a) → made r (λ s. string-bytes s ≡ told c a) → made r (λ s. Tells c m m′ (string-bytes s))
@@ -29,10 +30,6 @@ module _ {Z E : Type 0} (c : Call) (m m′ : Memory) where
   pub asks-made : (r : Result (String Z) E) → 0 < m .lamps → m′ .lamps ≡ m .lamps → made r (λ s. Tells c (in-use m) (in-use m′) (string-bytes s)) → made r (λ s. Step (Asks c) m m′ (string-bytes s))
   asks-made (Ok s) p many says = on-board c m m′ (string-bytes s) p many says
   asks-made (Err e) p many says = tt
-
-pub none-made : {Z E : Type 0} (c : Call) (m : Memory) (r : Result (String Z) E) → m .lamps ≡ 0 → made r (λ s. string-bytes s ≡ refusal 1 0) → made r (λ s. Step (Asks c) m m (string-bytes s))
-none-made c m (Ok s) z says = no-board c m (string-bytes s) z says
-none-made c m (Err e) z says = tt
 
 -- the first n of four slices were lent to be written, and the other two
 module _ (n k x d : ℕ) (ws rs ts cs ls ms ws′ rs′ ts′ cs′ ls′ ms′ : List ℕ) (same : k ≡ n) (first : x ≡ n) (rest : d ≡ n)
@@ -63,7 +60,14 @@ module _ (n k x d : ℕ) (ws rs ts cs ls ms ws′ rs′ ts′ cs′ ls′ ms′ 
       (subst (λ m. (w : Board) → Holds (lent k (take x ws) (take x rs) (take x ts) (take x cs) ls ms) w → Performs (lent k (take x ws) (take x rs) (take x ts) (take x cs) ls ms) m w (wires i j) said) new-part done)
       (dark n us) holds)
 
--- how many lamps there are is given with a line
-pub few-made : {Z E : Type 0} (k : ℕ) (t : List ℕ) (r : Result (ℕ × String Z) E) → k ≤ 64 → made r (λ p. (p .0 ≡ k) × (string-bytes (p .1) ≡ t)) → made r (λ p. p .0 ≤ 64)
-few-made k t (Ok p) few says = omega (arith, few, says .0)
-few-made k t (Err e) few says = tt
+-- a line with how many lamps there are then
+module _ {Z E : Type 0} (k : ℕ) (t : List ℕ) where
+  pub few-made : (r : Result (ℕ × String Z) E) → k ≤ 64 → made r (λ p. (p .0 ≡ k) × (string-bytes (p .1) ≡ t)) → made r (λ p. p .0 ≤ 64)
+  few-made (Ok p) few says = omega (arith, few, says .0)
+  few-made (Err e) few says = tt
+
+  pub step-made : (May : Option Board → List ℕ → Option Board → Type 0) (m : Memory) (ws rs ts cs ls ms : List ℕ) (r : Result (ℕ × String Z) E) → Step May m (lent k ws rs ts cs ls ms) t
+      → made r (λ p. (p .0 ≡ k) × (string-bytes (p .1) ≡ t)) → made r (λ p. Step May m (lent (p .0) ws rs ts cs ls ms) (string-bytes (p .1)))
+  step-made May m ws rs ts cs ls ms (Ok p) step says =
+      subst (λ x. Step May m (lent x ws rs ts cs ls ms) (string-bytes (p .1))) (sym (says .0)) (subst (λ s. Step May m (lent k ws rs ts cs ls ms) s) (sym (says .1)) step)
+  step-made May m ws rs ts cs ls ms (Err e) step says = tt

@@ -10,7 +10,8 @@ use Rattle.lamps.specs.Lamps.{Wire, none-lit}
 use Rattle.lamps.specs.Calls.{Board, Call, Answer, after, right}
 use Rattle.lamps.specs.Promise.{Memory}
 use Rattle.desk.specs.Holding.{lent, Holds}
-use Rattle.text.specs.Lines.{refusal, told}
+use Rattle.lines.specs.Texts.{refusal-line}
+use Rattle.text.specs.Lines.{told}
 
 -- there is a board or none. What may be said, and what is there then: s is what is said, b is there before and b′ after it
 
@@ -20,7 +21,7 @@ dark n ws = record { wires-there = ws; on = none-lit n }
 
 -- a call is to be answered
 abbrev pub Asks : Call → Option Board → List ℕ → Option Board → Type 0
-Asks c None s b′ = (s ≡ refusal 1 0) × (b′ ≡ None)
+Asks c None s b′ = (s ≡ refusal-line 1 0) × (b′ ≡ None)
 Asks c (Some b) s b′ = (a : Answer) × right b c a × (s ≡ told c a) × (b′ ≡ Some (after b c))
 
 -- MEMORY

@@ -7,10 +7,7 @@ use Rattle.lamps.specs.Lamps.{Lamps}
 use Rattle.lamps.specs.Calls.{Call, wires, turns, presses, lit, out, ways, garbled}
 use Rattle.lamps.specs.Calls.{Answer, refused, number, lamps, fewest, some-way, never}
 use Rattle.lines.specs.Printed.{shown}
-
--- a refusal, by its number and the place
-abbrev pub refusal : ℕ → ℕ → List ℕ
-refusal k p = codes "refused " ++ (decimal k ++ (codes " at " ++ (decimal p ++ codes "\n")))
+use Rattle.lines.specs.Texts.{refusal-line}
 
 -- a board of n lamps is open
 abbrev pub opened : ℕ → List ℕ
@@ -39,7 +36,7 @@ set name ls = name ++ (shown ls ++ codes "\n")
 
 -- an answer to a call
 abbrev pub told : Call → Answer → List ℕ
-told c (refused k p) = refusal k p
+told c (refused k p) = refusal-line k p
 told c (number k) = numbered c k
 told c (lamps ls) = set (codes "lit ") ls
 told c (fewest ls) = set (codes "press ") ls

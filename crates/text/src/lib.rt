@@ -9,15 +9,18 @@ ghost use Rattle.std.specs.Of.String.{string-bytes};
 ghost use Rattle.std.specs.Vec.{made};
 ghost use Rattle.gf2.specs.Rows.{pick};
 ghost use Rattle.lamps.specs.Lamps.{Wire, listed, wired};
-ghost use Rattle.lamps.specs.Boards.{wire as joined, wires-before};
+ghost use Rattle.lamps.specs.Boards.{wire as joined, wires-before, grid};
 ghost use Rattle.bits.specs.Bits.{bit-of};
 ghost use Rattle.matrix.specs.Cells.{width-of};
 ghost use Rattle.calls.specs.Saying.{lamps-of, meant, said};
 ghost use Rattle.desk.specs.Holding.{lent};
 ghost use Rattle.session.specs.Lent.{table-words};
+ghost use Rattle.lines.specs.Lines.{line-of};
 ghost use Rattle.lines.specs.Printed.{shown};
-ghost use Rattle.text.specs.Lines.{refusal as refusal-line, opened, so-many, numbered, set as set-line, told};
+ghost use Rattle.lines.specs.Texts.{refusal-line};
+ghost use Rattle.text.specs.Lines.{opened, so-many, numbered, set as set-line, told};
 ghost use Rattle.text.specs.Board.{Asks, in-use, Step, Tells, Comes};
+ghost use Rattle.text.specs.Transcript.{Opens, Answers, Answered};
 use calls::Answer;
 use calls::Call;
 use lines::Line;
@@ -177,6 +180,32 @@ fn ask(
     )
 }
 
+// The same, with how many lamps there are then.
+fn answer_call(
+    heap: Global,
+    n: u16,
+    wires: &mut [u64],
+    rows: &mut [u64],
+    done: &mut [u64],
+    pivots: &mut [u16],
+    lit: &mut [u64],
+    marks: &mut [u64],
+    call: Call,
+) -> Result<(u16, String), AllocError>
+    requires n { ⌜ n ≤ 64 ⌝ }
+    requires wires { ⌜ length (now wires) ≡ 64 ⌝ }
+    requires rows { ⌜ length (now rows) ≡ 64 ⌝ }
+    requires done { ⌜ length (now done) ≡ 64 ⌝ }
+    requires pivots { ⌜ length (now pivots) ≡ 64 ⌝ }
+    requires lit { ⌜ length (now lit) ≡ 1 ⌝ }
+    requires marks { ⌜ length (now marks) ≡ 1 ⌝ }
+    ensures small { λ r. ⌜ made r (λ p. p .0 ≤ 64) ⌝ }
+    ensures answers { λ r. ⌜ made r (λ p. Step (Asks (meant call)) (lent n (now (wires .entry)) (now (rows .entry)) (now (done .entry)) (now (pivots .entry)) (now (lit .entry)) (now (marks .entry))) (lent (p .0) (now (wires .exit)) (now (rows .exit)) (now (done .exit)) (now (pivots .exit)) (now (lit .exit)) (now (marks .exit))) (string-bytes (p .1))) ⌝ }
+{
+    let text = ask(heap, n, wires, rows, done, pivots, lit, marks, call)?;
+    Ok((n, text))
+}
+
 // The wire between the lamps `i` and `j` comes to a dark board that hasn't got it.
 fn join(
     board: Board,
@@ -321,6 +350,7 @@ fn open(
     requires lit { ⌜ length (now lit) ≡ 1 ⌝ }
     requires marks { ⌜ length (now marks) ≡ 1 ⌝ }
     ensures small { λ r. ⌜ made r (λ p. p .0 ≤ 64) ⌝ }
+    ensures opens { λ r. ⌜ made r (λ p. Step (Opens lamps []) (lent n (now (wires .entry)) (now (rows .entry)) (now (done .entry)) (now (pivots .entry)) (now (lit .entry)) (now (marks .entry))) (lent (p .0) (now (wires .exit)) (now (rows .exit)) (now (done .exit)) (now (pivots .exit)) (now (lit .exit)) (now (marks .exit))) (string-bytes (p .1))) ⌝ }
 {
     if lamps > 64 {
         return stay(heap, n, 3, 0);
@@ -352,6 +382,7 @@ fn open_grid(
     requires lit { ⌜ length (now lit) ≡ 1 ⌝ }
     requires marks { ⌜ length (now marks) ≡ 1 ⌝ }
     ensures small { λ r. ⌜ made r (λ p. p .0 ≤ 64) ⌝ }
+    ensures opens { λ r. ⌜ made r (λ p. Step (Opens (w * h) (grid w h)) (lent n (now (wires .entry)) (now (rows .entry)) (now (done .entry)) (now (pivots .entry)) (now (lit .entry)) (now (marks .entry))) (lent (p .0) (now (wires .exit)) (now (rows .exit)) (now (done .exit)) (now (pivots .exit)) (now (lit .exit)) (now (marks .exit))) (string-bytes (p .1))) ⌝ }
 {
     let size = w as u32 * h as u32;
     if size > 64 {
@@ -385,66 +416,49 @@ fn answer_line(
     requires lit { ⌜ length (now lit) ≡ 1 ⌝ }
     requires marks { ⌜ length (now marks) ≡ 1 ⌝ }
     ensures small { λ r. ⌜ made r (λ p. p .0 ≤ 64) ⌝ }
+    ensures answers { λ r. ⌜ made r (λ p. Step (Answers (line-of (now (line .entry)))) (lent n (now (wires .entry)) (now (rows .entry)) (now (done .entry)) (now (pivots .entry)) (now (lit .entry)) (now (marks .entry))) (lent (p .0) (now (wires .exit)) (now (rows .exit)) (now (done .exit)) (now (pivots .exit)) (now (lit .exit)) (now (marks .exit))) (string-bytes (p .1))) ⌝ }
 {
     match lines::read_line(line) {
         Err(place) => stay(heap, n, 1, place),
         Ok(Line::Nothing) => Ok((n, String::new(heap))),
         Ok(Line::Lamps(lamps)) => open(heap, n, lamps, wires, rows, done, pivots, lit, marks),
         Ok(Line::Grid(w, h)) => open_grid(heap, n, w, h, wires, rows, done, pivots, lit, marks),
-        Ok(Line::Wire(i, j)) => Ok((
+        Ok(Line::Wire(i, j)) => answer_call(
+            heap,
             n,
-            ask(
-                heap,
-                n,
-                wires,
-                rows,
-                done,
-                pivots,
-                lit,
-                marks,
-                Call::Wire(i, j),
-            )?,
-        )),
-        Ok(Line::Turn(i)) => Ok((
+            wires,
+            rows,
+            done,
+            pivots,
+            lit,
+            marks,
+            Call::Wire(i, j),
+        ),
+        Ok(Line::Turn(i)) => answer_call(
+            heap,
             n,
-            ask(
-                heap,
-                n,
-                wires,
-                rows,
-                done,
-                pivots,
-                lit,
-                marks,
-                Call::Turn(i),
-            )?,
-        )),
-        Ok(Line::Press(i)) => Ok((
+            wires,
+            rows,
+            done,
+            pivots,
+            lit,
+            marks,
+            Call::Turn(i),
+        ),
+        Ok(Line::Press(i)) => answer_call(
+            heap,
             n,
-            ask(
-                heap,
-                n,
-                wires,
-                rows,
-                done,
-                pivots,
-                lit,
-                marks,
-                Call::Press(i),
-            )?,
-        )),
-        Ok(Line::Lit) => Ok((
-            n,
-            ask(heap, n, wires, rows, done, pivots, lit, marks, Call::Lit)?,
-        )),
-        Ok(Line::Out) => Ok((
-            n,
-            ask(heap, n, wires, rows, done, pivots, lit, marks, Call::Out)?,
-        )),
-        Ok(Line::Ways) => Ok((
-            n,
-            ask(heap, n, wires, rows, done, pivots, lit, marks, Call::Ways)?,
-        )),
+            wires,
+            rows,
+            done,
+            pivots,
+            lit,
+            marks,
+            Call::Press(i),
+        ),
+        Ok(Line::Lit) => answer_call(heap, n, wires, rows, done, pivots, lit, marks, Call::Lit),
+        Ok(Line::Out) => answer_call(heap, n, wires, rows, done, pivots, lit, marks, Call::Out),
+        Ok(Line::Ways) => answer_call(heap, n, wires, rows, done, pivots, lit, marks, Call::Ways),
     }
 }
 
@@ -465,6 +479,7 @@ fn answer_lines(
     requires pivots { ⌜ length (now pivots) ≡ 64 ⌝ }
     requires lit { ⌜ length (now lit) ≡ 1 ⌝ }
     requires marks { ⌜ length (now marks) ≡ 1 ⌝ }
+    ensures { λ r. ⌜ made r (λ s. Answered (now (text .entry)) (string-bytes s)) ⌝ }
 {
     let mut out = String::new(heap);
     let mut n = 0;
@@ -503,7 +518,9 @@ fn answer_lines(
 }
 
 // The answers to the lines of a text.
-pub fn answers(heap: Global, text: &[u8]) -> Result<String, AllocError> {
+pub fn answers(heap: Global, text: &[u8]) -> Result<String, AllocError>
+    ensures { λ r. ⌜ made r (λ s. Answered (now (text .entry)) (string-bytes s)) ⌝ }
+{
     let mut wires = [0; 64];
     let mut rows = [0; 64];
     let mut done = [0; 64];

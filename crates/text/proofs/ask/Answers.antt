@@ -1,9 +1,9 @@
-use mathlib.Core.Path.{_≡_, refl, sym, ap, _∙_}
-use Prim.Native.Nat.{ℕ, _+_, _*_, _-_, _<_, _≤_}
+use mathlib.Core.Path.{_≡_, _∙_}
+use Prim.Native.Nat.{_-_}
 use native.Mathlib.Omega.{arith}
-use lib.ListN.{length, length-take, length-drop}
+use lib.ListN.{length-take, length-drop}
 use Rattle.calls.specs.Saying.{meant}
-use Rattle.text.proofs.Made.{asks-parts, none-made}
+use Rattle.text.proofs.Made.{asks-parts}
 use Rattle.text.proofs.ask.Needs as need
 
 pub returns : need.returns
