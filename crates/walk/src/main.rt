@@ -1,4 +1,5 @@
 // Long lists of calls at random, on a session that keeps its steps and on one that starts from nothing before each answer: both have to say the same.
+// On small boards all presses are gone through besides, and the answers have to be what that finds.
 use std::alloc::AllocError;
 use std::alloc::Global;
 use std::error::AnyError;
@@ -108,6 +109,48 @@ fn ask(kept: &mut Memory, fresh: &mut Memory, board: Board, call: u8) -> bool {
     0 < a && a <= 160 && b == a && alike(&one[0..a], &other[0..a])
 }
 
+// How few presses put out what is lit, and how many sets of presses do: all are gone through, on a board of at most 12 lamps.
+fn all_presses(wires: &[u64], lit: u64, lamps: u16) -> (u64, u64) {
+    let mut fewest = 64u64;
+    let mut ways = 0u64;
+    if lamps > 12 {
+        return (fewest, ways);
+    }
+    for presses in 0u64..(1u64 << lamps) {
+        let mut left = lit;
+        let mut buttons = presses;
+        for row in wires {
+            if buttons & 1 == 1 {
+                left ^= *row;
+            }
+            buttons >>= 1;
+        }
+        if left == 0 {
+            ways = ways.wrapping_add(1);
+            fewest = fewest.min(presses.count_ones() as u64);
+        }
+    }
+    (fewest, ways)
+}
+
+// Whether the answers are what going through all presses finds.
+fn by_hand(kept: &mut Memory, board: Board) -> bool {
+    let lit = kept.lit.first().copied().unwrap_or(0);
+    let (fewest, ways) = all_presses(&kept.wires, lit, board.lamps);
+    let mut out = [0u8; 160];
+    let mut many = [0u8; 160];
+    let _ = kept.call(board, &[4], &mut out);
+    let _ = kept.call(board, &[5], &mut many);
+    if ways == 0 {
+        return out[0] == 5 && many[1] == 0;
+    }
+    out[0] == 3
+        && bits(&out[3..5]) == fewest
+        && many[1] > 0
+        && many[1] < 64
+        && 1u64 << (many[1] - 1) == ways
+}
+
 // One wire comes or goes and one lamp is turned; then both sessions are asked for presses and ways.
 fn step(kept: &mut Memory, fresh: &mut Memory, board: Board, seed: &mut u64) -> bool {
     let mut answer = [0u8; 160];
@@ -124,7 +167,9 @@ fn step(kept: &mut Memory, fresh: &mut Memory, board: Board, seed: &mut u64) -> 
     }
     fresh.wires.copy_from_slice(&kept.wires);
     fresh.lit.copy_from_slice(&kept.lit);
-    ask(kept, fresh, board, 4) && ask(kept, fresh, board, 5)
+    ask(kept, fresh, board, 4)
+        && ask(kept, fresh, board, 5)
+        && (board.lamps > 12 || by_hand(kept, board))
 }
 
 // How many of `steps` steps on a board of so many lamps were answered alike.
@@ -145,7 +190,7 @@ fn walk(heap: Global, lamps: u16, steps: u16, seed: u64) -> Result<u16, AllocErr
 }
 
 fn main(rt: LibcRuntime) -> Result<(), AnyError> {
-    for lamps in [1u16, 2, 7, 24, 64, 65, 130, 257] {
+    for lamps in [1u16, 2, 7, 12, 24, 64, 65, 130, 257] {
         let same = walk(rt.alloc(), lamps, 300, 20261118)?;
         println!(rt, "{lamps} lamps: {same} of 300 steps alike")?;
     }
