@@ -8,8 +8,8 @@ use Rattle.bits.proofs.count.Goals as goal
 pub loop-word-init : goal.loop-word-init
 loop-word-init c = refl
 
-pub overflow-add-set : goal.overflow-add-set
-overflow-add-set c =
+pub overflow_add-set : goal.overflow_add-set
+overflow_add-set c =
     let fits : get_or c.args.row.now c.loop-word.word-index 0 < 2 ^ 64 = omega arith in
     omega (arith, ones-le 64 _ fits, tally_le (64 * c.loop-word.word-index) (bit_of c.args.row.now))
 

@@ -6,7 +6,7 @@ use Rattle.blocks.proofs.add_entry.Goals as goal
 
 pub returns : goal.returns
 returns c =
-    let long : length c.xor-into.new.to ≡ c.args.width = c.xor-into.auto.to ∙ simp (length-take, length-drop) (omega arith) in
-    row_put c.args.memory.now c.xor-into.new.to c.args.width c.args.i c.requires.row long _
-    (λ j. c.xor-into.ensures j
+    let long : length c.xor_into.new.to ≡ c.args.width = c.xor_into.auto.to ∙ simp (length-take, length-drop) (omega arith) in
+    row_put c.args.memory.now c.xor_into.new.to c.args.width c.args.i c.requires.row long _
+    (λ j. c.xor_into.ensures j
     ∙ ap₂ (λ xs ys. differ (bit_of xs j) (bit_of ys j)) (part_row c.args.memory.now c.args.width c.args.i) (part_row c.args.table.now c.args.width c.args.e))

@@ -6,18 +6,18 @@ use Rattle.blocks.proofs.bring_into_steps.Goals as goal
 
 pub loop-first-init : goal.loop-first-init
 loop-first-init c = (
-  working_next _ _ _ _ _ _ _ _ (working_start _ _ _ _ _ c.identity.ensures (λ i l. c.no-pivots.ensures i (omega arith))) c.next-row-first.ensures,
-  c.next-row-first.ensures.most,
+  working_next _ _ _ _ _ _ _ _ (working_start _ _ _ _ _ c.identity.ensures (λ i l. c.no_pivots.ensures i (omega arith))) c.next_row-first.ensures,
+  c.next_row-first.ensures.most,
 )
 
-pub reduce-block-requires : goal.reduce-block-requires
-reduce-block-requires c =
+pub reduce_block-requires : goal.reduce_block-requires
+reduce_block-requires c =
     record { few = omega arith; small = omega arith; narrow = omega arith; wide = omega arith; rows = omega arith; done = omega arith; pivots = omega arith; within = omega arith }
 
 pub loop-first-preserved : goal.loop-first-preserved
 loop-first-preserved c = (
-  working_next _ _ _ _ _ _ _ _ (working_block _ _ _ _ _ _ _ _ _ _ _ (omega arith) c.loop-first.invariant.0 c.reduce-block.ensures) c.next-row-first-in-loop-first.ensures,
-  c.next-row-first-in-loop-first.ensures.most,
+  working_next _ _ _ _ _ _ _ _ (working_block _ _ _ _ _ _ _ _ _ _ _ (omega arith) c.loop-first.invariant.0 c.reduce_block.ensures) c.next_row-first-in-loop-first.ensures,
+  c.next_row-first-in-loop-first.ensures.most,
 )
 
 pub returns : goal.returns

@@ -8,8 +8,8 @@ use Rattle.blocks.proofs.double.Goals as goal
 pub loop-e-init : goal.loop-e-init
 loop-e-init c = (doubled_none _ _ _ _, refl)
 
-pub put-sum-requires : goal.put-sum-requires
-put-sum-requires c =
+pub put_sum-requires : goal.put_sum-requires
+put_sum-requires c =
     let to = row_within c.args.width (c.args.size + c.loop-e.e) (c.args.size + c.args.size) (omega arith) in
     let from = row_within c.args.width c.loop-e.e (c.args.size + c.args.size) (omega arith) in
     record { to = omega arith; from = omega arith; row = omega arith; apart = omega arith }

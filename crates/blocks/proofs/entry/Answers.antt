@@ -6,14 +6,14 @@ use Rattle.blocks.proofs.Table.{number_below, number_more, power_more}
 use Rattle.blocks.proofs.entry.Goals as goal
 use Rattle.blocks.proofs.entry.Goals.{then-column-n+then-has, then-column-n+else-has, else-column-n}
 
-pub overflow-add-e : goal.overflow-add-e
-overflow-add-e c =
+pub overflow_add-e : goal.overflow_add-e
+overflow_add-e c =
     let below = number_below (hits c.args.n c.args.width c.args.rows.now c.args.columns.now c.args.i) c.loop-column.column-index in
     let few : 2 ^ c.loop-column.column-index ≤ 2 ^ 6 = pow_mono {i = c.loop-column.column-index} {j = 6} (omega arith) in
     omega (arith, c.loop-column.invariant.0, c.loop-column.invariant.1)
 
-pub overflow-mul-unit : goal.overflow-mul-unit
-overflow-mul-unit c =
+pub overflow_mul-unit : goal.overflow_mul-unit
+overflow_mul-unit c =
     let few : 2 ^ c.loop-column.column-index ≤ 2 ^ 6 = pow_mono {i = c.loop-column.column-index} {j = 6} (omega arith) in
     omega (arith, c.loop-column.invariant.1)
 

@@ -5,8 +5,8 @@ use Rattle.matrix.proofs.Memory.{row_within}
 use Rattle.blocks.proofs.Search.{zero_row, some_cell}
 use Rattle.blocks.proofs.next_row.Goals as goal
 
-pub offset-bounds-memory-start : goal.offset-bounds-memory-start
-offset-bounds-memory-start c =
+pub offset_bounds-memory-start : goal.offset_bounds-memory-start
+offset_bounds-memory-start c =
     let row = row_within c.args.width c.rows.i c.args.to c.rows-test.true in
     omega arith
 

@@ -9,6 +9,6 @@ use Rattle.blocks.proofs.put_sum.Goals as goal
 
 pub returns : goal.returns
 returns c =
-    subst (λ ws. RowPut c.args.table.now c.add-row.new.memory c.args.width c.args.to (sum (cell c.args.table.now c.args.width c.args.from) (bit_of ws)))
+    subst (λ ws. RowPut c.args.table.now c.add_row.new.memory c.args.width c.args.to (sum (cell c.args.table.now c.args.width c.args.from) (bit_of ws)))
     (part_row c.args.memory.now c.args.width c.args.i)
-    (put_sum _ _ _ _ _ _ _ (omega arith) c.write-row.ensures c.add-row.ensures)
+    (put_sum _ _ _ _ _ _ _ (omega arith) c.write_row.ensures c.add_row.ensures)

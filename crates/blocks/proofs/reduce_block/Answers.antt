@@ -17,19 +17,19 @@ tabulate-requires-2 c =
 
 pub sweep-requires : goal.sweep-requires
 sweep-requires c =
-    let long = block_long c.settle-block.new.pivots c.args.first c.args.count (omega arith) in
+    let long = block_long c.settle_block.new.pivots c.args.first c.args.count (omega arith) in
     let before = mul-le-mul_right {m = c.args.first} {n = c.args.n} c.args.width (omega arith) in
     record { few = omega arith; wide = omega arith; narrow = omega arith; order = omega arith; rows = omega arith; done = omega arith }
 
 pub sweep-requires-2 : goal.sweep-requires-2
 sweep-requires-2 c =
-    let long = block_long c.settle-block.new.pivots c.args.first c.args.count (omega arith) in
+    let long = block_long c.settle_block.new.pivots c.args.first c.args.count (omega arith) in
     record { few = omega arith; wide = omega arith; narrow = omega arith; order = omega arith; rows = omega arith; done = omega arith }
 
 pub returns : goal.returns
 returns c =
-    let cs = c.settle-block.new.pivots in
+    let cs = c.settle_block.new.pivots in
     let first = c.args.first in
     let count = c.args.count in
     reduces_block c.args.n c.args.width _ _ _ _ _ cs _ _ _ _ _ _ _ first count c.requires.within (block_long cs first count (omega arith)) (block_at cs first count)
-    c.settle-block.ensures c.tabulate.ensures c.tabulate-2.ensures c.sweep.ensures.rows c.sweep.ensures.done c.sweep-2.ensures.rows c.sweep-2.ensures.done
+    c.settle_block.ensures c.tabulate.ensures c.tabulate-2.ensures c.sweep.ensures.rows c.sweep.ensures.done c.sweep-2.ensures.rows c.sweep-2.ensures.done

@@ -9,13 +9,13 @@ use Rattle.blocks.proofs.settle_block.Goals.{then-column-n, else-column-n}
 pub loop-t-init : goal.loop-t-init
 loop-t-init c = settles_none _ _ _ _ _ _ _
 
-pub first-bit-column-requires : goal.first-bit-column-requires
-first-bit-column-requires c =
+pub first_bit-column-requires : goal.first_bit-column-requires
+first_bit-column-requires c =
     let row = row_within c.args.width c.loop-t.t c.args.n (omega arith) in
     record { narrow = omega arith; fits = omega arith }
 
-pub clear-column-requires : goal.clear-column-requires
-clear-column-requires c =
+pub clear_column-requires : goal.clear_column-requires
+clear_column-requires c =
     let row = row_within c.args.width c.loop-t.t c.args.n (omega arith) in
     let block = mul-le-mul_right c.args.width c.requires.within in
     record { order = omega arith; rows = omega arith; done = omega arith; row = omega arith; made = omega arith; column = omega arith }
@@ -23,7 +23,7 @@ clear-column-requires c =
 pub loop-t-preserved : goal.loop-t-preserved
 loop-t-preserved c =
     let t = c.loop-t.t in
-    let x = c.first-bit-column.result in
+    let x = c.first_bit-column.result in
     let cs = c.loop-t.pivots in
     let Next : List ℕ → List ℕ → Type 0 = λ rs ts.
     BlockSettles c.args.n c.args.width c.args.rows.now c.args.done.now (column_of c.args.pivots.now) rs ts (column_of (set cs t x)) c.args.first (t + 1) c.args.end in
@@ -34,10 +34,10 @@ loop-t-preserved c =
     let other : (i : ℕ) → i ≢ t → column_of (set cs t x) i ≡ column_of cs i = λ i ne. get_or-set_other cs t i x 0 ne in
     elim c.if-column-n.branch [
       | then-column-n w ↦ at _ _ w.rows-is w.done-is
-          (settles_pivot _ _ _ _ _ _ _ _ _ _ _ _ _ c.loop-t.auto.t c.loop-t-test.true c.requires.within c.loop-t.invariant c.first-bit-column.ensures here other _ _ w.if-column-n.true
-          w.clear-column.ensures)
+          (settles_pivot _ _ _ _ _ _ _ _ _ _ _ _ _ c.loop-t.auto.t c.loop-t-test.true c.requires.within c.loop-t.invariant c.first_bit-column.ensures here other _ _ w.if-column-n.true
+          w.clear_column.ensures)
       | else-column-n w ↦ at _ _ w.rows-is w.done-is
-          (settles_zero _ _ _ _ _ _ _ _ _ _ _ _ _ c.loop-t.auto.t c.loop-t-test.true c.requires.within c.loop-t.invariant c.first-bit-column.ensures here other w.if-column-n.false)
+          (settles_zero _ _ _ _ _ _ _ _ _ _ _ _ _ c.loop-t.auto.t c.loop-t-test.true c.requires.within c.loop-t.invariant c.first_bit-column.ensures here other w.if-column-n.false)
     ]
 
 pub returns : goal.returns

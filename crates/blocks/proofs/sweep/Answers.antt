@@ -13,15 +13,15 @@ entry-e-requires c =
     let row = row_within c.args.width c.loop-i.i c.args.high c.loop-i-test.true in
     record { few = omega arith; wide = omega arith; row = omega arith }
 
-pub add-entry-requires : goal.add-entry-requires
-add-entry-requires c =
+pub add_entry-requires : goal.add_entry-requires
+add_entry-requires c =
     let row = row_within c.args.width c.loop-i.i c.args.high c.loop-i-test.true in
     let below = entry_below c.args.n c.args.width c.loop-i.rows c.args.columns.now c.loop-i.i c.requires.few in
     let entry = row_within c.args.width c.entry-e.result 64 (omega (arith, c.entry-e.ensures)) in
     record { row = omega arith; table = omega arith }
 
-pub add-entry-requires-then-e-ne0 : goal.add-entry-requires-then-e-ne0
-add-entry-requires-then-e-ne0 c =
+pub add_entry-requires-then-e-ne0 : goal.add_entry-requires-then-e-ne0
+add_entry-requires-then-e-ne0 c =
     let row = row_within c.args.width c.loop-i.i c.args.high c.loop-i-test.true in
     let below = entry_below c.args.n c.args.width c.loop-i.rows c.args.columns.now c.loop-i.i c.requires.few in
     let entry = row_within c.args.width c.entry-e.result 64 (omega (arith, c.entry-e.ensures)) in
@@ -40,8 +40,8 @@ loop-i-preserved c =
     let is : c.entry-e.result ≡ e c.loop-i.i = c.entry-e.ensures ∙ same_entry c.args.n c.args.width c.args.rows.now c.loop-i.rows c.args.columns.now c.loop-i.i (swept_same _ _ _ _ _ _ _ from inv.0) in
     elim c.if-e-ne0.branch [
       | then-e-ne0 w ↦ at _ _ w.rows-is w.done-is (
-        swept_add _ _ _ _ _ _ _ from inv.0 _ _ is w.add-entry.ensures,
-        swept_add _ _ _ _ _ _ _ from inv.1 _ _ is w.add-entry-then-e-ne0.ensures,
+        swept_add _ _ _ _ _ _ _ from inv.0 _ _ is w.add_entry.ensures,
+        swept_add _ _ _ _ _ _ _ from inv.1 _ _ is w.add_entry-then-e-ne0.ensures,
       )
       | else-e-ne0 w ↦ at _ _ w.rows-is w.done-is (
         swept_skip _ _ _ _ _ _ _ from inv.0 (sym is ∙ w.if-e-ne0.false),

@@ -4,13 +4,13 @@ use Rattle.blocks.specs.Said.{Tabled}
 use Rattle.blocks.proofs.Table.{tabled_none, tabled_more, power_more}
 use Rattle.blocks.proofs.tabulate.Goals as goal
 
-pub clear-row-requires : goal.clear-row-requires
-clear-row-requires c =
+pub clear_row-requires : goal.clear_row-requires
+clear_row-requires c =
     let row = row_within c.args.width 0 (2 ^ c.args.count) (pow_mono {i = 0} {j = c.args.count} (omega arith)) in
     omega arith
 
 pub loop-b-init : goal.loop-b-init
-loop-b-init c = (tabled_none _ _ _ _ c.clear-row.ensures.here, refl, refl)
+loop-b-init c = (tabled_none _ _ _ _ c.clear_row.ensures.here, refl, refl)
 
 pub double-requires : goal.double-requires
 double-requires c =

@@ -7,9 +7,9 @@ use Rattle.calls.proofs.fill_lamps.Goals as goal
 
 pub loop-i-preserved : goal.loop-i-preserved
 loop-i-preserved c =
-    ap (λ b. set c.loop-i.out c.loop-i.i b) c.lamp-byte.ensures
+    ap (λ b. set c.loop-i.out c.loop-i.i b) c.lamp_byte.ensures
     ∙ packed_more (eight (listed c.args.n (bit_of c.args.row.now))) c.loop-i.out c.args.out.now c.loop-i.i (omega arith) c.loop-i.invariant
 
 pub returns : goal.returns
 returns c =
-    packed_all c.args.n c.loop-i.i c.div-ceil-count.result (bit_of c.args.row.now) c.loop-i.out c.args.out.now (omega arith) (omega arith) c.loop-i.invariant
+    packed_all c.args.n c.loop-i.i c.div_ceil-count.result (bit_of c.args.row.now) c.loop-i.out c.args.out.now (omega arith) (omega arith) c.loop-i.invariant

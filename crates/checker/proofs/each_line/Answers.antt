@@ -3,7 +3,7 @@ use Rattle.checker.specs.Replies.{said, Answered}
 use Rattle.lines.proofs.Cut.{part}
 use Rattle.checker.proofs.Going.{going_on, going_next, going_done, stands_as}
 use Rattle.checker.proofs.each_line.Goals as goal
-use Rattle.checker.proofs.each_line.Goals.{then-text-end-eq10+in-ok-written+in-ok-push-str, else-text-end-eq10}
+use Rattle.checker.proofs.each_line.Goals.{then-text-end-eq10+in_ok-written+in_ok-push_str, else-text-end-eq10}
 
 pub loop-end-preserved : goal.loop-end-preserved
 loop-end-preserved c =
@@ -12,14 +12,14 @@ loop-end-preserved c =
     let inv = c.loop-end.invariant in
     let g = inv.4 in
     elim c.if-text-end-eq10.branch [
-      | then-text-end-eq10+in-ok-written+in-ok-push-str w ↦
+      | then-text-end-eq10+in_ok-written+in_ok-push_str w ↦
           stands_as text _ w.start-is w.board-is w.wires-is w.lit-is (ap string_bytes w.out-is) (
             omega arith,
-            w.take-line-next.ensures.small,
-            w.take-line-next.auto.wires ∙ inv.2,
-            w.take-line-next.auto.lit ∙ inv.3,
-            going_next text _ end _ _ _ _ g w.take-line-next.result.1 _ _ _ _ (w.take-line-next.ensures.answered g.model g.held)
-                (w.in-ok-push-str.ensures.bytes ∙ ap (λ x. string_bytes c.loop-end.out ++ x) (w.as-str.ensures.value ∙ w.in-ok-written.ensures))
+            w.take_line-next.ensures.small,
+            w.take_line-next.auto.wires ∙ inv.2,
+            w.take_line-next.auto.lit ∙ inv.3,
+            going_next text _ end _ _ _ _ g w.take_line-next.result.1 _ _ _ _ (w.take_line-next.ensures.answered g.model g.held)
+                (w.in_ok-push_str.ensures.bytes ∙ ap (λ x. string_bytes c.loop-end.out ++ x) (w.as_str.ensures.value ∙ w.in_ok-written.ensures))
                 c.loop-end-test.true w.if-text-end-eq10.true,
           )
       | else-text-end-eq10 w ↦
@@ -37,9 +37,9 @@ returns c =
     let text = c.args.text.now in
     let g = c.loop-end.invariant.4 in
     let all : length text ≡ c.loop-end.end = omega arith in
-    let a = c.take-line-reply.ensures.answered g.model g.held in
-    let r = c.take-line-reply.result.1 in
-    going_done text c.loop-end.start c.loop-end.end _ _ _ _ g r c.take-line-reply.result.0 c.take-line-reply.new.wires c.take-line-reply.new.lit _
-    (subst (λ e. Answered g.model (said g.model (part text c.loop-end.start e)) r c.take-line-reply.result.0 c.take-line-reply.new.wires c.take-line-reply.new.lit) all a)
-    (c.in-ok-push-str-2.ensures.bytes ∙ ap (λ x. string_bytes c.loop-end.out ++ x) (c.as-str-2.ensures.value ∙ c.in-ok-written-2.ensures))
+    let a = c.take_line-reply.ensures.answered g.model g.held in
+    let r = c.take_line-reply.result.1 in
+    going_done text c.loop-end.start c.loop-end.end _ _ _ _ g r c.take_line-reply.result.0 c.take_line-reply.new.wires c.take_line-reply.new.lit _
+    (subst (λ e. Answered g.model (said g.model (part text c.loop-end.start e)) r c.take_line-reply.result.0 c.take_line-reply.new.wires c.take_line-reply.new.lit) all a)
+    (c.in_ok-push_str-2.ensures.bytes ∙ ap (λ x. string_bytes c.loop-end.out ++ x) (c.as_str-2.ensures.value ∙ c.in_ok-written-2.ensures))
     c.loop-end-test.false

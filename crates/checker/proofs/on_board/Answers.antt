@@ -17,11 +17,11 @@ returns-in-Turn c = record {
 pub returns-in-Press : goal.returns-in-Press
 returns-in-Press c = record {
   small = c.requires.small;
-  answered = λ b h. answered_as (ap Ok (sym c.in-Press.is)) (press_answered c.args.board _ _ b h c.in-Press.p _ c.requires.small c.check-presses.ensures);
+  answered = λ b h. answered_as (ap Ok (sym c.in-Press.is)) (press_answered c.args.board _ _ b h c.in-Press.p _ c.requires.small c.check_presses.ensures);
 }
 
 pub returns-in-Never : goal.returns-in-Never
 returns-in-Never c = record {
   small = c.requires.small;
-  answered = λ b h. answered_as (ap Ok (sym c.in-Never.is)) (never_answered c.args.board _ _ b h c.in-Never.q _ c.requires.small c.check-never.ensures);
+  answered = λ b h. answered_as (ap Ok (sym c.in-Never.is)) (never_answered c.args.board _ _ b h c.in-Never.q _ c.requires.small c.check_never.ensures);
 }

@@ -30,7 +30,7 @@ returns-in-Press c = record {
 
 pub returns-in-Lit : goal.returns-in-Lit
 returns-in-Lit c = record {
-  performs = λ b h. performs_as (ap meant c.in-Lit.is) (lit_performs _ _ _ _ _ _ _ _ b h c.copy-from-slice.ensures.after);
+  performs = λ b h. performs_as (ap meant c.in-Lit.is) (lit_performs _ _ _ _ _ _ _ _ b h c.copy_from_slice.ensures.after);
   kept = λ no_refusal. absurd (false≢true no_refusal);
   lamps = omega arith;
 }

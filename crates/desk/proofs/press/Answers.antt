@@ -4,9 +4,9 @@ use Rattle.desk.proofs.Taken.{press_no_lamp}
 use Rattle.desk.proofs.Changed.{press_performs}
 use Rattle.desk.proofs.press.Goals as goal
 
-pub returns-in-default : goal.returns-in-default
-returns-in-default c = record {
-  performs = λ b rs ts cs ms row h. press_no_lamp _ b h c.args.i c.in-default.ensures.0;
+pub returns-in_default : goal.returns-in_default
+returns-in_default c = record {
+  performs = λ b rs ts cs ms row h. press_no_lamp _ b h c.args.i c.in_default.ensures.0;
   kept = λ _. refl;
   lamps = refl;
 }

@@ -5,8 +5,8 @@ use Rattle.solve.specs.Solved.{zero_row}
 use Rattle.desk.proofs.Told.{tracks, pivots, spare, within, ways_some, ways_none}
 use Rattle.desk.proofs.ways.Goals as goal
 
-pub overflow-add-result : goal.overflow-add-result
-overflow-add-result c =
+pub overflow_add-result : goal.overflow_add-result
+overflow_add-result c =
     let few = tally_le c.args.board.lamps (zero_row c.args.board.lamps (column_of c.renew.new.pivots)) in
     search (rules, few, c.zero_rows.ensures.rows, c.args.board.small)
 

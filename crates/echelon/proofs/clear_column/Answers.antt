@@ -13,10 +13,10 @@ has-requires c =
     let row = row_within c.args.width c.loop-m.m c.args.to c.loop-m-test.true in
     record { fits = omega arith; within = omega arith }
 
-pub add-row-requires : goal.add-row-requires
-add-row-requires c =
+pub add_row-requires : goal.add_row-requires
+add_row-requires c =
     let row = row_within c.args.width c.loop-m.m c.args.to c.loop-m-test.true in
-    record { rows-to = omega arith; rows-from = omega arith; done-to = omega arith; done-from = omega arith; apart = omega arith }
+    record { rows_to = omega arith; rows_from = omega arith; done_to = omega arith; done_from = omega arith; apart = omega arith }
 
 pub loop-m-preserved : goal.loop-m-preserved
 loop-m-preserved c =
@@ -28,7 +28,7 @@ loop-m-preserved c =
     let inv = c.loop-m.invariant in
     elim c.if-m-k.branch [
       | then-m-k+then-has w ↦ at _ _ w.rows-is w.done-is
-          (clear_from _ _ _ _ _ _ _ _ _ from inv w.if-m-k.true w.if-has.ensures _ _ w.add-row.ensures.rows w.add-row.ensures.done)
+          (clear_from _ _ _ _ _ _ _ _ _ from inv w.if-m-k.true w.if-has.ensures _ _ w.add_row.ensures.rows w.add_row.ensures.done)
       | then-m-k+else-has w ↦ at _ _ w.rows-is w.done-is (clear_off _ _ _ _ _ _ _ _ _ from inv w.if-has.ensures)
       | else-m-k w ↦ at _ _ w.rows-is w.done-is (clear_itself _ _ _ _ _ _ _ _ _ from inv w.if-m-k.false)
     ]

@@ -13,11 +13,11 @@ has-requires c =
     let row = row_within c.args.width c.args.k c.args.n c.requires.within in
     record { fits = omega arith; within = omega arith }
 
-pub add-row-requires : goal.add-row-requires
-add-row-requires c =
+pub add_row-requires : goal.add_row-requires
+add_row-requires c =
     let from = row_within c.args.width c.loop-m.m c.args.n c.loop-m-test.true in
     let to = row_within c.args.width c.args.k c.args.n c.requires.within in
-    record { rows-to = omega arith; rows-from = omega arith; done-to = omega arith; done-from = omega arith; apart = omega arith }
+    record { rows_to = omega arith; rows_from = omega arith; done_to = omega arith; done_from = omega arith; apart = omega arith }
 
 pub loop-m-preserved : goal.loop-m-preserved
 loop-m-preserved c =
@@ -29,7 +29,7 @@ loop-m-preserved c =
     elim c.if-m-k.branch [
       | then-m-k+then-column-n+then-has w ↦ at _ _ w.rows-is w.done-is
           (reduce_by _ _ _ _ _ _ _ _ _ inv c.requires.within c.loop-m-test.true w.if-m-k.true w.if-column-n.true w.if-has.ensures
-          _ _ w.add-row.ensures.rows w.add-row.ensures.done)
+          _ _ w.add_row.ensures.rows w.add_row.ensures.done)
       | then-m-k+then-column-n+else-has w ↦ at _ _ w.rows-is w.done-is (reduce_off _ _ _ _ _ _ _ _ _ inv w.if-has.ensures)
       | then-m-k+else-column-n w ↦ at _ _ w.rows-is w.done-is (reduce_no_pivot _ _ _ _ _ _ _ _ _ inv w.if-column-n.false)
       | else-m-k w ↦ at _ _ w.rows-is w.done-is (reduce_itself _ _ _ _ _ _ _ _ _ inv w.if-m-k.false)

@@ -7,8 +7,8 @@ use Rattle.echelon.proofs.Laws.{zero_rows, tally_more}
 use Rattle.echelon.proofs.zero_rows.Goals as goal
 use Rattle.echelon.proofs.zero_rows.Goals.{then-column-n, else-column-n}
 
-pub overflow-add-zero : goal.overflow-add-zero
-overflow-add-zero c =
+pub overflow_add-zero : goal.overflow_add-zero
+overflow_add-zero c =
     let most = tally_le c.loop-column.column-index (λ i. leb c.args.n (column_of c.args.pivots.now i)) in
     omega (arith, c.loop-column.invariant)
 

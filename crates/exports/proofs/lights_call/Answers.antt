@@ -4,8 +4,8 @@ use Rattle.calls.specs.Saying.{written}
 use Rattle.exports.proofs.Bytes.{put_within, called_as}
 use Rattle.exports.proofs.lights_call.Goals as goal
 
-pub overflow-cast-result : goal.overflow-cast-result
-overflow-cast-result c =
+pub overflow_cast-result : goal.overflow_cast-result
+overflow_cast-result c =
     let room : length c.args.answer.now * 1 < 2 ^ 63 = search rules in
     let few : c.in-Ok.written ≤ length c.call.new.answer = put_within (written c.in-Ok.ensures.answered.says) c.args.answer.now c.call.new.answer c.in-Ok.written c.in-Ok.ensures.answered.put in
     record { sfits = omega (arith, room, few, c.call.auto.answer) }

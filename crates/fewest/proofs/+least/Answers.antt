@@ -16,8 +16,8 @@ returns-then-accepted t c =
     let counted : c.count-set.result ≡ tally (bit_of now) (64 * width) = c.count-set.ensures ∙ ap (λ w. tally (bit_of now) (64 * w)) c.requires.current in
     record {
       back = refl;
-      least = subst (λ k. Least (64 * width) k (cell c.args.sets.now width) ok (bit_of now) (bit_of c.args.best.now) (bit_of c.copy-from-slice.new.self) c.args.best-count c.count-set.result) (sym c.if-k-eq0.true)
-          (least_here _ _ _ _ _ _ _ _ counted (λ j. ap (λ ws. bit_of ws j) c.copy-from-slice.ensures.after) (omega arith)
+      least = subst (λ k. Least (64 * width) k (cell c.args.sets.now width) ok (bit_of now) (bit_of c.args.best.now) (bit_of c.copy_from_slice.new.self) c.args.best_count c.count-set.result) (sym c.if-k-eq0.true)
+          (least_here _ _ _ _ _ _ _ _ counted (λ j. ap (λ ws. bit_of ws j) c.copy_from_slice.ensures.after) (omega arith)
           (ap (λ w. accepts (64 * w) c.args.test (bit_of c.args.against.now) (bit_of now)) (sym c.requires.current) ∙ sym c.if-accepted.ensures));
     }
 
@@ -28,21 +28,21 @@ returns-else-accepted t c =
     let ok : Row → Bool = accepts (64 * width) c.args.test (bit_of c.args.against.now) in
     record {
       back = refl;
-      least = subst (λ k. Least (64 * width) k (cell c.args.sets.now width) ok (bit_of now) (bit_of c.args.best.now) (bit_of c.args.best.now) c.args.best-count c.args.best-count) (sym c.if-k-eq0.true)
+      least = subst (λ k. Least (64 * width) k (cell c.args.sets.now width) ok (bit_of now) (bit_of c.args.best.now) (bit_of c.args.best.now) c.args.best_count c.args.best_count) (sym c.if-k-eq0.true)
           (least_refused _ _ _ _ _ _ c.requires.counted
           (ap (λ w. accepts (64 * w) c.args.test (bit_of c.args.against.now) (bit_of now)) (sym c.requires.current) ∙ sym c.if-accepted.ensures));
     }
 
-pub returns-else-set-best-count : goal.returns-else-set-best-count
-returns-else-set-best-count t c =
+pub returns-else-set-best_count : goal.returns-else-set-best_count
+returns-else-set-best_count t c =
     let width = c.args.width in
     let now = c.args.current.now in
     let ok : Row → Bool = accepts (64 * width) c.args.test (bit_of c.args.against.now) in
     let counted : c.count-set.result ≡ tally (bit_of now) (64 * width) = c.count-set.ensures ∙ ap (λ w. tally (bit_of now) (64 * w)) c.requires.current in
     record {
       back = refl;
-      least = subst (λ k. Least (64 * width) k (cell c.args.sets.now width) ok (bit_of now) (bit_of c.args.best.now) (bit_of c.args.best.now) c.args.best-count c.args.best-count) (sym c.if-k-eq0.true)
-          (least_kept _ _ _ _ _ _ c.requires.counted c.count-set.result counted c.if-set-best-count.false);
+      least = subst (λ k. Least (64 * width) k (cell c.args.sets.now width) ok (bit_of now) (bit_of c.args.best.now) (bit_of c.args.best.now) c.args.best_count c.args.best_count) (sym c.if-k-eq0.true)
+          (least_kept _ _ _ _ _ _ c.requires.counted c.count-set.result counted c.if-set-best_count.false);
     }
 
 pub returns : goal.returns
@@ -51,12 +51,12 @@ returns t c =
     let width = c.args.width in
     let one : suc (c.args.k - 1) ≡ c.args.k = omega arith in
     let part = part_row sets width (c.args.k - 1) in
-    let add : (j : ℕ) → bit_of c.xor-into.new.to j ≡ differ (bit_of c.args.current.now j) (cell sets width (c.args.k - 1) j) =
-    λ j. turned (c.xor-into.ensures j) (ap (λ ws. bit_of ws j) c.least-without.ensures.back) (ap (λ ws. bit_of ws j) part) in
+    let add : (j : ℕ) → bit_of c.xor_into.new.to j ≡ differ (bit_of c.args.current.now j) (cell sets width (c.args.k - 1) j) =
+    λ j. turned (c.xor_into.ensures j) (ap (λ ws. bit_of ws j) c.least-without.ensures.back) (ap (λ ws. bit_of ws j) part) in
     let fits : (i : ℕ) → get_or c.args.current.now i 0 < 2 ^ 64 = λ i. search rules in
     record {
-      back = same_rows c.xor-into-2.new.to c.args.current.now (omega arith) (λ i. omega (arith, c.type-inv.current i)) fits (λ j _. turned_back _ (bit_of c.args.current.now j) (cell sets width (c.args.k - 1) j)
-          (turned (c.xor-into-2.ensures j) (ap (λ ws. bit_of ws j) c.least-with.ensures.back) (ap (λ ws. bit_of ws j) part)) (add j));
-      least = subst (λ k. Least (64 * width) k (cell sets width) (accepts (64 * width) c.args.test (bit_of c.args.against.now)) (bit_of c.args.current.now) (bit_of c.args.best.now) (bit_of c.least-with.new.best) c.args.best-count c.least-with.result) one
+      back = same_rows c.xor_into-2.new.to c.args.current.now (omega arith) (λ i. omega (arith, c.type_inv.current i)) fits (λ j _. turned_back _ (bit_of c.args.current.now j) (cell sets width (c.args.k - 1) j)
+          (turned (c.xor_into-2.ensures j) (ap (λ ws. bit_of ws j) c.least-with.ensures.back) (ap (λ ws. bit_of ws j) part)) (add j));
+      least = subst (λ k. Least (64 * width) k (cell sets width) (accepts (64 * width) c.args.test (bit_of c.args.against.now)) (bit_of c.args.current.now) (bit_of c.args.best.now) (bit_of c.least-with.new.best) c.args.best_count c.least-with.result) one
           (least_more _ _ _ _ _ _ _ _ _ _ _ _ add c.least-without.ensures.least c.least-with.ensures.least);
     }

@@ -12,8 +12,8 @@ use Rattle.fewest.proofs.collect.Goals.{then-not-get, then-k-lt16, else-k-lt16, 
 pub loop-f-init : goal.loop-f-init
 loop-f-init c = (collected_none _ _ _, omega arith, refl)
 
-pub put-set-requires : goal.put-set-requires
-put-set-requires c =
+pub put_set-requires : goal.put_set-requires
+put_set-requires c =
     let row = row_within ((c.args.n + 63) / 64) c.loop-f.k 16 c.if-k-lt16.true in
     record { small = c.requires.small; rows = c.requires.rows; pivots = c.requires.pivots; column = c.loop-f-test.true; sets = omega arith }
 
@@ -28,12 +28,12 @@ loop-f-preserved c =
     λ sets k p q h. subst (λ x. Next x c.if-not-get.k) (sym p) (subst (λ y. Next sets y) (sym q) h) in
     let inv = c.loop-f.invariant in
     let low : c.loop-f.k ≤ c.loop-f.f = inv.1 in
-    let said : (b : Bool) → b ≡ bit_of c.mark-pivots.new.columns c.loop-f.f → free n cs c.loop-f.f ≡ not b =
-    λ b e. ap (λ x. not x) (ap (λ m. taken m cs c.loop-f.f) (sym c.requires.pivots) ∙ sym (c.mark-pivots.ensures c.loop-f.f c.loop-f-test.true) ∙ sym e) in
+    let said : (b : Bool) → b ≡ bit_of c.mark_pivots.new.columns c.loop-f.f → free n cs c.loop-f.f ≡ not b =
+    λ b e. ap (λ x. not x) (ap (λ m. taken m cs c.loop-f.f) (sym c.requires.pivots) ∙ sym (c.mark_pivots.ensures c.loop-f.f c.loop-f-test.true) ∙ sym e) in
     elim c.if-not-get.branch [
       | then-not-get w ↦ elim w.if-k-lt16.branch [
         | then-k-lt16 v ↦ at _ _ (w.sets-is ∙ v.sets-is) w.k-is
-            (collected_put _ _ _ _ _ _ _ inv.0 (said false w.if-not-get.ensures) v.put-set.ensures, omega arith, v.put-set.auto.sets ∙ inv.2)
+            (collected_put _ _ _ _ _ _ _ inv.0 (said false w.if-not-get.ensures) v.put_set.ensures, omega arith, v.put_set.auto.sets ∙ inv.2)
         | else-k-lt16 v ↦ at _ _ (w.sets-is ∙ v.sets-is) w.k-is
             (collected_past _ _ _ _ _ inv.0 (said false w.if-not-get.ensures) v.if-k-lt16.false, omega arith, inv.2)
       ]

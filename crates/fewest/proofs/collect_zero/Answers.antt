@@ -12,8 +12,8 @@ use Rattle.fewest.proofs.collect_zero.Goals.{then-pivots-i, then-k-lt16, else-k-
 pub loop-i-init : goal.loop-i-init
 loop-i-init c = (collected_none _ _ _, omega arith, refl)
 
-pub copy-row-requires : goal.copy-row-requires
-copy-row-requires c =
+pub copy_row-requires : goal.copy_row-requires
+copy_row-requires c =
     let from = row_within ((c.args.n + 63) / 64) c.loop-i.i c.args.n c.loop-i-test.true in
     let to = row_within ((c.args.n + 63) / 64) c.loop-i.k 16 c.if-k-lt16.true in
     record { from = omega arith; to = omega arith }
@@ -31,7 +31,7 @@ loop-i-preserved c =
     elim c.if-pivots-i.branch [
       | then-pivots-i w ↦ elim w.if-k-lt16.branch [
         | then-k-lt16 v ↦ at _ _ (w.sets-is ∙ v.sets-is) w.k-is
-            (collected_put _ _ _ _ _ _ _ inv.0 (le-leb _ _ w.if-pivots-i.true) v.copy-row.ensures, omega arith, v.copy-row.auto.sets ∙ inv.2)
+            (collected_put _ _ _ _ _ _ _ inv.0 (le-leb _ _ w.if-pivots-i.true) v.copy_row.ensures, omega arith, v.copy_row.auto.sets ∙ inv.2)
         | else-k-lt16 v ↦ at _ _ (w.sets-is ∙ v.sets-is) w.k-is
             (collected_past _ _ _ _ _ inv.0 (le-leb _ _ w.if-pivots-i.true) v.if-k-lt16.false, omega arith, inv.2)
       ]

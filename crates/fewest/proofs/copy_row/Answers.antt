@@ -5,6 +5,6 @@ use Rattle.fewest.proofs.copy_row.Goals as goal
 
 pub returns : goal.returns
 returns c = record {
-  row = record { same = λ j. c.write-row.ensures.here j ∙ ap (λ ws. bit_of ws j) (part_row c.args.done.now c.args.width c.args.i) };
-  rest = c.write-row.ensures.rest;
+  row = record { same = λ j. c.write_row.ensures.here j ∙ ap (λ ws. bit_of ws j) (part_row c.args.done.now c.args.width c.args.i) };
+  rest = c.write_row.ensures.rest;
 }

@@ -11,9 +11,9 @@ returns c =
     let n = c.args.n in
     let width = (n + 63) / 64 in
     let sets = c.args.sets.now in
-    let long : length c.quiet-set.new.out ≡ width = c.quiet-set.auto.out ∙ simp (length-take, length-drop) (omega arith) in
+    let long : length c.quiet_set.new.out ≡ width = c.quiet_set.auto.out ∙ simp (length-take, length-drop) (omega arith) in
     record {
       row = subst (λ ws. QuietSet n (cell c.args.rows.now width) (column_of c.args.pivots.now) c.args.f (bit_of ws))
-          (sym (row_written sets c.quiet-set.new.out width c.args.k c.requires.sets long)) c.quiet-set.ensures;
-      rest = row_around sets c.quiet-set.new.out width c.args.k c.requires.sets long;
+          (sym (row_written sets c.quiet_set.new.out width c.args.k c.requires.sets long)) c.quiet_set.ensures;
+      rest = row_around sets c.quiet_set.new.out width c.args.k c.requires.sets long;
     }

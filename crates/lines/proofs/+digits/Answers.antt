@@ -7,23 +7,23 @@ use Rattle.lines.proofs.+digits.Goals as goal
 pub returns-then-n-eq0 : goal.returns-then-n-eq0
 returns-then-n-eq0 t c = bits_none _ found _ _ c.if-n-eq0.true
 
-pub returns-then-not-is-binary : goal.returns-then-not-is-binary
-returns-then-not-is-binary t c = bits_stops _ found _ (c.args.n - 1) _ (omega arith) (rw c.byte-at-byte.ensures at c.if-not-is-binary.ensures)
+pub returns-then-not-is_binary : goal.returns-then-not-is_binary
+returns-then-not-is_binary t c = bits_stops _ found _ (c.args.n - 1) _ (omega arith) (rw c.byte_at-byte.ensures at c.if-not-is_binary.ensures)
 
-pub overflow-add-at : goal.overflow-add-at
-overflow-add-at t c = let below = binary_below c.args.line.now c.args.at (rw c.byte-at-byte.ensures at c.if-not-is-binary.ensures) in omega arith
+pub overflow_add-at : goal.overflow_add-at
+overflow_add-at t c = let below = binary_below c.args.line.now c.args.at (rw c.byte_at-byte.ensures at c.if-not-is_binary.ensures) in omega arith
 
 pub returns-in-Err : goal.returns-in-Err
 returns-in-Err t c =
-    rw (bits_from _ _ (c.args.n - 1) c.args.n _ (omega arith) c.byte-at-byte.ensures c.if-not-is-binary.ensures, ← c.in-Err.ensures)
+    rw (bits_from _ _ (c.args.n - 1) c.args.n _ (omega arith) c.byte_at-byte.ensures c.if-not-is_binary.ensures, ← c.in-Err.ensures)
 
-pub overflow-mul-result : goal.overflow-mul-result
-overflow-mul-result t c = let small = found_small _ _ _ _ _ (omega arith) c.in-Ok.ensures in omega arith
+pub overflow_mul-result : goal.overflow_mul-result
+overflow_mul-result t c = let small = found_small _ _ _ _ _ (omega arith) c.in-Ok.ensures in omega arith
 
-pub overflow-add-result : goal.overflow-add-result
-overflow-add-result t c =
+pub overflow_add-result : goal.overflow_add-result
+overflow_add-result t c =
     let small = found_small _ _ _ _ _ (omega arith) c.in-Ok.ensures in
-    let low = binary_small c.byte-at-byte.result c.if-not-is-binary.ensures in omega arith
+    let low = binary_small c.byte_at-byte.result c.if-not-is_binary.ensures in omega arith
 
 pub returns : goal.returns
-returns t c = rw (bits_from _ _ (c.args.n - 1) c.args.n _ (omega arith) c.byte-at-byte.ensures c.if-not-is-binary.ensures, ← c.in-Ok.ensures)
+returns t c = rw (bits_from _ _ (c.args.n - 1) c.args.n _ (omega arith) c.byte_at-byte.ensures c.if-not-is_binary.ensures, ← c.in-Ok.ensures)

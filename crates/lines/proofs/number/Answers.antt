@@ -5,10 +5,10 @@ use Rattle.lines.proofs.Steps.{digit_below, number_next, number_stops, digits_ne
 use Rattle.lines.proofs.number.Goals as goal
 
 pub returns-then-not-extends : goal.returns-then-not-extends
-returns-then-not-extends c = number_stops _ found _ (rw c.byte-at.ensures at c.if-not-extends.ensures)
+returns-then-not-extends c = number_stops _ found _ (rw c.byte_at.ensures at c.if-not-extends.ensures)
 
 pub loop-end-init : goal.loop-end-init
-loop-end-init c = (omega arith, number_next _ found _ (rw c.byte-at.ensures at c.if-not-extends.ensures))
+loop-end-init c = (omega arith, number_next _ found _ (rw c.byte_at.ensures at c.if-not-extends.ensures))
 
 pub loop-end-preserved : goal.loop-end-preserved
 loop-end-preserved c =
@@ -19,5 +19,5 @@ returns-then-not-extends-2 c = digits_stop _ found _ _ c.loop-end-test.true c.if
 
 pub returns : goal.returns
 returns c =
-    let below = digit_below c.args.line.now c.args.at 0 (rw c.byte-at.ensures at c.if-not-extends.ensures) in
+    let below = digit_below c.args.line.now c.args.at 0 (rw c.byte_at.ensures at c.if-not-extends.ensures) in
     digits_all _ _ _ (omega arith) ∙ c.loop-end.invariant.1

@@ -5,8 +5,8 @@ use Rattle.lines.proofs.pass.Goals as goal
 pub returns-then-not-has : goal.returns-then-not-has
 returns-then-not-has c = word_stops _ _ _ _ _ c.loop-w-test.true c.if-not-has.ensures ∙ c.loop-w.invariant
 
-pub overflow-add-end : goal.overflow-add-end
-overflow-add-end c = search (rules, has_below)
+pub overflow_add-end : goal.overflow_add-end
+overflow_add-end c = search (rules, has_below)
 
 pub loop-w-preserved : goal.loop-w-preserved
 loop-w-preserved c = word_next _ _ _ _ _ c.loop-w-test.true c.if-not-has.ensures ∙ c.loop-w.invariant

@@ -4,34 +4,34 @@ use Rattle.lines.specs.declared.Claim.TheVariants.{Lamps, Wire, Turn, Press, Nev
 use Rattle.lines.proofs.Forms.{one_is, two_is, set_is, either_way}
 use Rattle.lines.proofs.read_claim.Goals as goal
 
-pub returns-then-says-nothing : goal.returns-then-says-nothing
+pub returns-then-says_nothing : goal.returns-then-says_nothing
 unfolding claim_of silent further
-returns-then-says-nothing c = rw (← c.if-says-nothing.ensures) (either_way _ _)
+returns-then-says_nothing c = rw (← c.if-says_nothing.ensures) (either_way _ _)
 
 pub returns-in-Ok : goal.returns-in-Ok
 unfolding claim_of silent further
-returns-in-Ok c = rw (← c.if-says-nothing.ensures, one_is _ _ Lamps _ c.in-Ok.ensures) (either_way _ _)
+returns-in-Ok c = rw (← c.if-says_nothing.ensures, one_is _ _ Lamps _ c.in-Ok.ensures) (either_way _ _)
 
-pub returns-in-Ok-with-two : goal.returns-in-Ok-with-two
+pub returns-in-Ok-with_two : goal.returns-in-Ok-with_two
 unfolding claim_of silent further
-returns-in-Ok-with-two c = rw (← c.if-says-nothing.ensures, one_is _ _ Lamps _ c.in-Err.ensures, two_is _ _ Wire _ c.in-Ok-with-two.ensures) (either_way _ _)
+returns-in-Ok-with_two c = rw (← c.if-says_nothing.ensures, one_is _ _ Lamps _ c.in-Err.ensures, two_is _ _ Wire _ c.in-Ok-with_two.ensures) (either_way _ _)
 
-pub returns-in-Ok-with-one : goal.returns-in-Ok-with-one
+pub returns-in-Ok-with_one : goal.returns-in-Ok-with_one
 unfolding claim_of silent further
-returns-in-Ok-with-one c = rw (← c.if-says-nothing.ensures, one_is _ _ Lamps _ c.in-Err.ensures, two_is _ _ Wire _ c.in-Err-with-two.ensures, one_is _ _ Turn _ c.in-Ok-with-one.ensures) (either_way _ _)
+returns-in-Ok-with_one c = rw (← c.if-says_nothing.ensures, one_is _ _ Lamps _ c.in-Err.ensures, two_is _ _ Wire _ c.in-Err-with_two.ensures, one_is _ _ Turn _ c.in-Ok-with_one.ensures) (either_way _ _)
 
-pub returns-then-not-is-served : goal.returns-then-not-is-served
+pub returns-then-not-is_served : goal.returns-then-not-is_served
 unfolding claim_of silent further
-returns-then-not-is-served c = rw (← c.if-says-nothing.ensures, ← c.if-not-is-served.ensures, one_is _ _ Lamps _ c.in-Err.ensures, two_is _ _ Wire _ c.in-Err-with-two.ensures, one_is _ _ Turn _ c.in-Err-with-one.ensures) (cc)
+returns-then-not-is_served c = rw (← c.if-says_nothing.ensures, ← c.if-not-is_served.ensures, one_is _ _ Lamps _ c.in-Err.ensures, two_is _ _ Wire _ c.in-Err-with_two.ensures, one_is _ _ Turn _ c.in-Err-with_one.ensures) (cc)
 
-pub returns-in-Ok-with-set : goal.returns-in-Ok-with-set
+pub returns-in-Ok-with_set : goal.returns-in-Ok-with_set
 unfolding claim_of silent further
-returns-in-Ok-with-set c = rw (← c.if-says-nothing.ensures, ← c.if-not-is-served.ensures, one_is _ _ Lamps _ c.in-Err.ensures, two_is _ _ Wire _ c.in-Err-with-two.ensures, one_is _ _ Turn _ c.in-Err-with-one.ensures, set_is _ _ _ Press _ c.in-Ok-with-set.ensures)
+returns-in-Ok-with_set c = rw (← c.if-says_nothing.ensures, ← c.if-not-is_served.ensures, one_is _ _ Lamps _ c.in-Err.ensures, two_is _ _ Wire _ c.in-Err-with_two.ensures, one_is _ _ Turn _ c.in-Err-with_one.ensures, set_is _ _ _ Press _ c.in-Ok-with_set.ensures)
 
-pub returns-in-Ok-with-set-2 : goal.returns-in-Ok-with-set-2
+pub returns-in-Ok-with_set-2 : goal.returns-in-Ok-with_set-2
 unfolding claim_of silent further
-returns-in-Ok-with-set-2 c = rw (← c.if-says-nothing.ensures, ← c.if-not-is-served.ensures, one_is _ _ Lamps _ c.in-Err.ensures, two_is _ _ Wire _ c.in-Err-with-two.ensures, one_is _ _ Turn _ c.in-Err-with-one.ensures, set_is _ _ _ Press _ c.in-Err-with-set.ensures, set_is _ _ _ Never _ c.in-Ok-with-set-2.ensures)
+returns-in-Ok-with_set-2 c = rw (← c.if-says_nothing.ensures, ← c.if-not-is_served.ensures, one_is _ _ Lamps _ c.in-Err.ensures, two_is _ _ Wire _ c.in-Err-with_two.ensures, one_is _ _ Turn _ c.in-Err-with_one.ensures, set_is _ _ _ Press _ c.in-Err-with_set.ensures, set_is _ _ _ Never _ c.in-Ok-with_set-2.ensures)
 
 pub returns : goal.returns
 unfolding claim_of silent further
-returns c = rw (← c.if-says-nothing.ensures, ← c.if-not-is-served.ensures, one_is _ _ Lamps _ c.in-Err.ensures, two_is _ _ Wire _ c.in-Err-with-two.ensures, one_is _ _ Turn _ c.in-Err-with-one.ensures, set_is _ _ _ Press _ c.in-Err-with-set.ensures, set_is _ _ _ Never _ c.in-Err-with-set-2.ensures) (cc)
+returns c = rw (← c.if-says_nothing.ensures, ← c.if-not-is_served.ensures, one_is _ _ Lamps _ c.in-Err.ensures, two_is _ _ Wire _ c.in-Err-with_two.ensures, one_is _ _ Turn _ c.in-Err-with_one.ensures, set_is _ _ _ Press _ c.in-Err-with_set.ensures, set_is _ _ _ Never _ c.in-Err-with_set-2.ensures) (cc)

@@ -6,8 +6,8 @@ use Rattle.matrix.proofs.Memory.{row_in, part_row}
 use Rattle.lit.proofs.Holding.{holds_pressed}
 use Rattle.lit.proofs.press.Goals as goal
 
-pub slice-bounds-xor-into-end : goal.slice-bounds-xor-into-end
-slice-bounds-xor-into-end c =
+pub slice_bounds-xor_into-end : goal.slice_bounds-xor_into-end
+slice_bounds-xor_into-end c =
     let row = row_in c.args.board.lamps c.width-width.result c.args.i _ c.width-width.ensures c.requires.wires c.requires.lamp in
     search rules
 
@@ -15,8 +15,8 @@ pub returns : goal.returns
 returns c =
     let wires = c.args.wires.now in
     let i = c.args.i in
-    let bits : (k : ℕ) → bit_of c.xor-into.new.to k ≡ differ (bit_of c.args.lit.now k) (cell wires (width_of c.args.board.lamps) i k) = λ k.
-    c.xor-into.ensures k
+    let bits : (k : ℕ) → bit_of c.xor_into.new.to k ≡ differ (bit_of c.args.lit.now k) (cell wires (width_of c.args.board.lamps) i k) = λ k.
+    c.xor_into.ensures k
     ∙ ap (λ ws. differ (bit_of c.args.lit.now k) (bit_of ws k)) (part_row wires c.width-width.result i)
     ∙ ap (λ w. differ (bit_of c.args.lit.now k) (cell wires w i k)) c.width-width.ensures in
     record { bits = bits; holds = holds_pressed c.args.board.lamps wires _ _ i c.requires.lamp bits }

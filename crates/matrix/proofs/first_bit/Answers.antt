@@ -5,4 +5,4 @@ use Rattle.matrix.proofs.Memory.{part_row}
 use Rattle.matrix.proofs.first_bit.Goals as goal
 
 pub returns : goal.returns
-returns c = subst (λ ws. FirstSet c.args.n (bit_of ws) c.first-set.result) (part_row c.args.memory.now c.args.width c.args.i) c.first-set.ensures
+returns c = subst (λ ws. FirstSet c.args.n (bit_of ws) c.first_set.result) (part_row c.args.memory.now c.args.width c.args.i) c.first_set.ensures

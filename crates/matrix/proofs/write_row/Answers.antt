@@ -5,6 +5,6 @@ use Rattle.matrix.proofs.write_row.Goals as goal
 
 pub returns : goal.returns
 returns c =
-    let long : length c.copy-from-slice.new.self ≡ c.args.width = ap length c.copy-from-slice.ensures.after ∙ c.requires.long in
-    row_put c.args.memory.now c.copy-from-slice.new.self c.args.width c.args.i c.requires.fits long _
-    (λ j. ap (λ ws. bit_of ws j) c.copy-from-slice.ensures.after)
+    let long : length c.copy_from_slice.new.self ≡ c.args.width = ap length c.copy_from_slice.ensures.after ∙ c.requires.long in
+    row_put c.args.memory.now c.copy_from_slice.new.self c.args.width c.args.i c.requires.fits long _
+    (λ j. ap (λ ws. bit_of ws j) c.copy_from_slice.ensures.after)

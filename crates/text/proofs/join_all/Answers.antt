@@ -23,14 +23,14 @@ loop-i-preserved c =
     let w = c.args.w in
     let i = c.loop-i.i in
     let inv = c.loop-i.invariant in (
-      c.join-next.auto.wires ∙ c.join-below.auto.wires ∙ inv.0,
-      c.join-next.auto.rows ∙ c.join-below.auto.rows ∙ inv.1,
-      c.join-next.auto.done ∙ c.join-below.auto.done ∙ inv.2,
-      c.join-next.auto.pivots ∙ c.join-below.auto.pivots ∙ inv.3,
-      c.join-next.auto.lit ∙ c.join-below.auto.lit ∙ inv.4,
-      c.join-next.auto.marks ∙ c.join-below.auto.marks ∙ inv.5,
-      λ h. subst (λ us. Holds (in_use (lent n c.join-next.new.wires c.join-next.new.rows c.join-next.new.done c.join-next.new.pivots c.join-next.new.lit c.join-next.new.marks)) (dark n us))
+      c.join_next.auto.wires ∙ c.join_below.auto.wires ∙ inv.0,
+      c.join_next.auto.rows ∙ c.join_below.auto.rows ∙ inv.1,
+      c.join_next.auto.done ∙ c.join_below.auto.done ∙ inv.2,
+      c.join_next.auto.pivots ∙ c.join_below.auto.pivots ∙ inv.3,
+      c.join_next.auto.lit ∙ c.join_below.auto.lit ∙ inv.4,
+      c.join_next.auto.marks ∙ c.join_below.auto.marks ∙ inv.5,
+      λ h. subst (λ us. Holds (in_use (lent n c.join_next.new.wires c.join_next.new.rows c.join_next.new.done c.join_next.new.pivots c.join_next.new.lit c.join_next.new.marks)) (dark n us))
           (more_wires w n i)
-          (c.join-next.ensures _ (λ ne. next_apart (ltb (i + w) n) w n i ne)
-          (c.join-below.ensures (wires_before w n i) (apart w n i i (i + w) (omega arith) (omega arith)) (inv.6 h))),
+          (c.join_next.ensures _ (λ ne. next_apart (ltb (i + w) n) w n i ne)
+          (c.join_below.ensures (wires_before w n i) (apart w n i i (i + w) (omega arith) (omega arith)) (inv.6 h))),
     )

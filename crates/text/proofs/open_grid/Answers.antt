@@ -10,8 +10,8 @@ use Rattle.text.proofs.Made.{few_made, step_made}
 use Rattle.text.proofs.Opened.{asked_small, is_opened}
 use Rattle.text.proofs.open_grid.Goals as goal
 
-pub join-all-requires : goal.join-all-requires
-join-all-requires c =
+pub join_all-requires : goal.join_all-requires
+join_all-requires c =
     let same = c.in-Ok.ensures.0 in
     let size : c.in-Ok.board.lamps ≡ c.args.w * c.args.h = omega (arith, same, c.if-size-gt64.false) in
     let some : 0 < c.args.w = grid_some c.args.w c.args.h (omega (arith, size, c.in-Ok.board.some)) in
@@ -40,8 +40,8 @@ returns c =
     let bare = subst (λ m. Holds m (dark n []))
     (asked_small n c.open.new.wires c.open.new.rows c.open.new.done c.open.new.pivots c.open.new.lit c.open.new.marks some few
     (c.open.auto.lit ∙ c.requires.lit) (c.open.auto.marks ∙ c.requires.marks)) new in
-    let holds = subst (λ k. Holds (in_use (lent n c.join-all.new.wires c.join-all.new.rows c.join-all.new.done c.join-all.new.pivots c.join-all.new.lit c.join-all.new.marks)) (dark k (wires_before w k k)))
-    size (c.join-all.ensures bare) in
+    let holds = subst (λ k. Holds (in_use (lent n c.join_all.new.wires c.join_all.new.rows c.join_all.new.done c.join_all.new.pivots c.join_all.new.lit c.join_all.new.marks)) (dark k (wires_before w k k)))
+    size (c.join_all.ensures bare) in
     record {
       small = few_made n (opened n) c.welcome.result few c.welcome.ensures;
       opens = step_made n (opened n) (Opens (w * c.args.h) (grid w c.args.h)) _ _ _ _ _ _ _ c.welcome.result

@@ -13,11 +13,11 @@ has-requires c =
     let row = row_within ((c.args.n + 63) / 64) c.loop-m.m c.args.n c.loop-m-test.true in
     record { fits = omega arith; within = omega arith }
 
-pub add-row-requires : goal.add-row-requires
-add-row-requires c =
+pub add_row-requires : goal.add_row-requires
+add_row-requires c =
     let to = row_within ((c.args.n + 63) / 64) c.loop-m.m c.args.n c.loop-m-test.true in
     let from = row_within ((c.args.n + 63) / 64) c.args.k c.args.n c.requires.within in
-    record { rows-to = omega arith; rows-from = omega arith; done-to = omega arith; done-from = omega arith; apart = omega arith }
+    record { rows_to = omega arith; rows_from = omega arith; done_to = omega arith; done_from = omega arith; apart = omega arith }
 
 pub loop-m-preserved : goal.loop-m-preserved
 loop-m-preserved c =
@@ -30,9 +30,9 @@ loop-m-preserved c =
     elim c.if-m-k.branch [
       | then-m-k+then-has w ↦ at _ _ w.rows-is w.done-is (
         frees_from _ _ _ _ _ _ _ _ _ inv.0 c.requires.within c.loop-m-test.true c.requires.lamp w.if-m-k.true w.if-has.ensures
-            _ _ w.add-row.ensures.rows w.add-row.ensures.done,
-        w.add-row.auto.rows ∙ inv.1,
-        w.add-row.auto.done ∙ inv.2,
+            _ _ w.add_row.ensures.rows w.add_row.ensures.done,
+        w.add_row.auto.rows ∙ inv.1,
+        w.add_row.auto.done ∙ inv.2,
       )
       | then-m-k+else-has w ↦ at _ _ w.rows-is w.done-is (frees_off _ _ _ _ _ _ _ _ _ inv.0 w.if-has.ensures, inv.1, inv.2)
       | else-m-k w ↦ at _ _ w.rows-is w.done-is (frees_itself _ _ _ _ _ _ _ _ _ inv.0 w.if-m-k.false, inv.1, inv.2)

@@ -8,7 +8,7 @@ returns c =
     let n = c.args.n in
     let width = (n + 63) / 64 in
     record {
-      steps = subst (λ ws. InSteps n (cell ws width) (cell c.bring-into-steps.new.rows width) (cell c.bring-into-steps.new.done width) (column_of c.bring-into-steps.new.pivots))
-          c.copy-from-slice.ensures.after c.bring-into-steps.ensures;
+      steps = subst (λ ws. InSteps n (cell ws width) (cell c.bring_into_steps.new.rows width) (cell c.bring_into_steps.new.done width) (column_of c.bring_into_steps.new.pivots))
+          c.copy_from_slice.ensures.after c.bring_into_steps.ensures;
       cleared = c.zero.ensures;
     }

@@ -19,10 +19,10 @@ loop-l-preserved c =
     let inv = c.loop-l.invariant in
     elim c.if-get.branch [
       | then-get w ↦ at _ _ _ w.rows-is w.done-is w.pivots-is (
-        refreshing_row _ _ _ _ _ _ _ _ _ _ _ inv.0 c.loop-l-test.true _ _ _ w.refresh-row.ensures,
-        w.refresh-row.auto.rows ∙ inv.1,
-        w.refresh-row.auto.done ∙ inv.2,
-        w.refresh-row.auto.pivots ∙ inv.3,
+        refreshing_row _ _ _ _ _ _ _ _ _ _ _ inv.0 c.loop-l-test.true _ _ _ w.refresh_row.ensures,
+        w.refresh_row.auto.rows ∙ inv.1,
+        w.refresh_row.auto.done ∙ inv.2,
+        w.refresh_row.auto.pivots ∙ inv.3,
       )
       | else-get w ↦ at _ _ _ w.rows-is w.done-is w.pivots-is (
         refreshing_skip _ _ _ _ _ _ _ _ _ _ _ inv.0 w.if-get.ensures,

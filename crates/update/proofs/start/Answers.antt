@@ -4,6 +4,6 @@ use Rattle.update.proofs.start.Goals as goal
 
 pub returns : goal.returns
 returns c = record {
-  steps = zeros_steps _ _ _ _ _ c.zero.ensures c.identity.ensures (λ i l. c.no-pivots.ensures i (omega arith));
-  marked = c.set-first.ensures;
+  steps = zeros_steps _ _ _ _ _ c.zero.ensures c.identity.ensures (λ i l. c.no_pivots.ensures i (omega arith));
+  marked = c.set_first.ensures;
 }
