@@ -1,5 +1,5 @@
 use Rattle.std.proofs.Common.{refl}
-use Rattle.desk.proofs.Told.{spare, within, out-fewest, out-some-way, out-never}
+use Rattle.desk.proofs.Told.{spare, within, out_fewest, out_some_way, out_never}
 use Rattle.desk.proofs.out.Goals as goal
 
 pub returns-then-free-le16 : goal.returns-then-free-le16
@@ -7,9 +7,9 @@ returns-then-free-le16 c = record {
   performs = λ b h.
       let renewed = c.renew.ensures.steps in
       let clear = c.renew.ensures.cleared in
-      out-fewest _ _ _ _ _ _ _ _ _ _ _ b h renewed clear _ _ _
+      out_fewest _ _ _ _ _ _ _ _ _ _ _ b h renewed clear _ _ _
       (c.if-solve.ensures.system (within _ _ _ _ _ _ _ _ _ _ _ b h renewed clear) (spare _ _ _ _ _ _ _ _ _ _ _ b h renewed clear))
-      c.fewest-way-free.ensures c.if-free-le16.true;
+      c.fewest_way-free.ensures c.if-free-le16.true;
   taken = (refl, refl);
 }
 
@@ -18,9 +18,9 @@ returns-else-free-le16 c = record {
   performs = λ b h.
       let renewed = c.renew.ensures.steps in
       let clear = c.renew.ensures.cleared in
-      out-some-way _ _ _ _ _ _ _ _ _ _ _ b h renewed clear _ _ _
+      out_some_way _ _ _ _ _ _ _ _ _ _ _ b h renewed clear _ _ _
       (c.if-solve.ensures.system (within _ _ _ _ _ _ _ _ _ _ _ b h renewed clear) (spare _ _ _ _ _ _ _ _ _ _ _ b h renewed clear))
-      c.fewest-way-free.ensures c.if-free-le16.false;
+      c.fewest_way-free.ensures c.if-free-le16.false;
   taken = (refl, refl);
 }
 
@@ -31,6 +31,6 @@ returns-else-solve c = record {
       let clear = c.renew.ensures.cleared in
       let lit = within _ _ _ _ _ _ _ _ _ _ _ b h renewed clear in
       let done = spare _ _ _ _ _ _ _ _ _ _ _ b h renewed clear in
-      out-never _ _ _ _ _ _ _ _ _ _ _ b h renewed clear _ _ _ (c.if-solve.ensures.system lit done) (c.fewest-never.ensures lit done);
+      out_never _ _ _ _ _ _ _ _ _ _ _ b h renewed clear _ _ _ (c.if-solve.ensures.system lit done) (c.fewest_never.ensures lit done);
   taken = (refl, refl);
 }
