@@ -1,4 +1,6 @@
 // Answers the calls of a text, a line for each: of the file that is named, or of the standard input.
+#![tactic(auto)]
+
 use std::io::Read;
 use std::{env, fs, io};
 

@@ -1,4 +1,6 @@
 // A row of bits in words of 64 bits, in memory that the caller lends.
+#![tactic(auto)]
+
 ghost use Rattle.std.specs.Prelude.{◌≡◌, ℕ, ◌*◌, ◌/◌, ◌<◌, ◌≤◌, false, length, ◌==◌};
 ghost use Rattle.gf2.specs.Rows.{differ, tally, dot};
 ghost use Rattle.bits.specs.Bits.{bit_of};

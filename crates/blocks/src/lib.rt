@@ -1,5 +1,7 @@
 // Rows are brought into reduced steps a block at a time: the pivots of a few rows are cleared from each other row by one sum of them, which is looked up in a table
 // of all such sums (the method of the four Russians).
+#![tactic(auto)]
+
 ghost use Rattle.std.specs.Prelude.{◌≡◌, ◌+◌, ◌*◌, ◌/◌, ◌^◌, ◌<◌, ◌≤◌, length, ◌≢◌};
 ghost use Rattle.gf2.specs.Rows.{sum};
 ghost use Rattle.matrix.specs.Cells.{cell};

@@ -1,4 +1,6 @@
 // Calls and answers as bytes.
+#![tactic(auto)]
+
 ghost use Rattle.std.specs.Prelude.{◌≡◌, ◌+◌, ◌*◌, ◌/◌, ◌%◌, ◌<◌, ◌≤◌, min, [], ◌∷◌, ◌++◌, length, slice_set};
 ghost use Rattle.lamps.specs.Lamps.{listed};
 ghost use Rattle.bits.specs.Bits.{bit_of};

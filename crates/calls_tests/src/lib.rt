@@ -1,3 +1,5 @@
+#![tactic(auto)]
+
 // Examples of calls and answers as bytes.
 #[cfg(test)]
 mod tests {

@@ -1,4 +1,6 @@
 // Lines that make a board and claims about it, answered without any solver.
+#![tactic(auto)]
+
 ghost use Rattle.std.specs.Prelude.{◌≡◌, ℕ, ◌≤◌, List, [], length, IfOk, Some, None, Ok, string_bytes, Option};
 ghost use Rattle.lamps.specs.Calls.{Board as Wall, wires as wires-call, turns};
 ghost use Rattle.checker.specs.Replies.{said, Small, Holding, Held, Answered, Called, Opens, Refuses};

@@ -1,4 +1,6 @@
 // Claims about a board are checked by doing what they say, without any solver.
+#![tactic(auto)]
+
 ghost use Rattle.std.specs.Prelude.{◌≡◌, ◌*◌, List, length};
 ghost use Rattle.lamps.specs.Lamps.{Lamps, Wire};
 ghost use Rattle.matrix.specs.Cells.{width_of};

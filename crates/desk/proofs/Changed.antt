@@ -1,5 +1,5 @@
 -- The memory after a call that changes the board. Assumes nothing.
-use Rattle.std.proofs.Common.{◌≡◌, ℕ, ◌<◌, ◌≤◌, Bool, true, false, not, ◌&&◌, ◌||◌, eqb, ◌≢◌, List, length, set, sym, refl, ap, ◌∙◌, subst, ap₂, true≢false, arith}
+use Rattle.std.proofs.Common.{◌≡◌, ℕ, ◌<◌, Bool, true, false, not, ◌&&◌, ◌||◌, eqb, ◌≢◌, List, length, set, sym, refl, ap, ◌∙◌, subst, ap₂, true≢false, arith}
 use Rattle.gf2.specs.Rows.{differ}
 use Rattle.gf2.proofs.Parity.{differ_false}
 use Rattle.lamps.specs.Lamps.{Lamps, Wire, at, listed, none_lit, pressed}

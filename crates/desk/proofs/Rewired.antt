@@ -1,5 +1,5 @@
 -- A wire that comes or goes changes two rows, and the steps are those of the new rows. Assumes nothing.
-use Rattle.std.proofs.Common.{◌≡◌, ℕ, Bool, false, ◌&&◌, ◌||◌, eqb, ◌≢◌, List, sym, refl, ap, ◌∙◌, inl, inr, arith}
+use Rattle.std.proofs.Common.{◌≡◌, ℕ, Bool, false, ◌&&◌, ◌||◌, eqb, ◌≢◌, List, sym, ap, ◌∙◌, inl, inr, arith}
 use Rattle.std.proofs.lemmas.Bool.{cases_eq, ne_eqb, eq-eqb}
 use Rattle.gf2.specs.Rows.{pick, differ, Rows}
 use Rattle.gf2.specs.Reduction.{put_row}

@@ -1,4 +1,6 @@
 // What each call does to the lent memory of a board, and what is answered.
+#![tactic(auto)]
+
 ghost use Rattle.std.specs.Prelude.{◌≡◌, ℕ, ◌*◌, ◌/◌, ◌<◌, ◌≤◌, true, false, ◌||◌, List, length, MatchResult, ◌==◌, ◌≢◌};
 ghost use Rattle.lamps.specs.Calls.{Board as Wall, number};
 ghost use Rattle.matrix.specs.Cells.{width_of};

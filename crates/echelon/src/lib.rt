@@ -1,4 +1,6 @@
 // Rows of bits in reduced steps: a row is settled among the others by sums of rows, and what was done to the rows is kept beside them.
+#![tactic(auto)]
+
 ghost use Rattle.std.specs.Prelude.{◌≡◌, ℕ, ◌+◌, ◌*◌, ◌/◌, ◌<◌, ◌≤◌, length, ◌≢◌};
 ghost use Rattle.matrix.specs.Said.{RowAdded};
 ghost use Rattle.echelon.specs.Steps.{column_of, Reducing, Clearing, Settles};

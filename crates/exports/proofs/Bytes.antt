@@ -1,5 +1,5 @@
 -- How many bytes an answer has. Assumes nothing.
-use Rattle.std.proofs.Common.{◌≡◌, ℕ, ◌+◌, ◌≤◌, List, length, drop, sym, ap, ◌∙◌, subst, arith, length-append}
+use Rattle.std.proofs.Common.{◌≡◌, ℕ, ◌+◌, ◌≤◌, List, length, drop, ap, ◌∙◌, subst, arith, length-append}
 use Rattle.calls.specs.Bytes.{Put}
 use Rattle.desk.specs.Holding.{lent}
 use Rattle.session.specs.Lent.{Called}

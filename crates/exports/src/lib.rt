@@ -1,5 +1,7 @@
 // The desk for other languages: a slice crosses as a pointer and a length, and what is returned is one signed number. Whatever numbers and lengths a caller gives,
 // nothing is read or written outside the slices.
+#![tactic(auto)]
+
 ghost use Rattle.std.specs.Prelude.{◌≡◌, Some, None};
 ghost use Rattle.desk.specs.Holding.{lent};
 ghost use Rattle.exports.specs.Codes.{code, NoBoard, Words, Opens, Answers};

@@ -1,16 +1,16 @@
 -- The quiet set of a free column, row by row, and the sets one after the other. Assumes nothing.
-use Rattle.std.proofs.Common.{◌≡◌, ℕ, zero, suc, ◌+◌, ◌<◌, ◌≤◌, Bool, true, false, ◌&&◌, eqb, ltb, ◌≢◌, ◌⊎◌, List, sym, refl, ap, ◌∙◌, subst, ap₂, inl, inr, add-one, arith}
+use Rattle.std.proofs.Common.{◌≡◌, ℕ, suc, ◌+◌, ◌<◌, ◌≤◌, Bool, true, false, ◌&&◌, eqb, ltb, ◌≢◌, List, sym, refl, ap, ◌∙◌, subst, ap₂, inl, inr, add-one, arith}
 use mathlib.Core.Bool.{false≢true}
 use Rattle.std.proofs.lemmas.Bool.{cases_eq, cases_lt, eq-eqb, ne_eqb, lt-ltb, le-ltb}
 use Rattle.gf2.specs.Rows.{differ, Row, Rows, parity, only, tally}
-use Rattle.gf2.specs.Reduction.{Pivots, Free, Vector}
+use Rattle.gf2.specs.Reduction.{Pivots, Free}
 use Rattle.gf2.proofs.Parity.{parity_none, and_false, differ_false}
 use Rattle.gf2.proofs.Rows.{parity_alone}
 use Rattle.gf2.proofs.Pivots.{pivots_apart}
 use Rattle.bits.specs.Bits.{bit_of}
-use Rattle.matrix.specs.Cells.{cell, row_of}
+use Rattle.matrix.specs.Cells.{cell}
 use Rattle.matrix.proofs.Memory.{other_rows}
-use Rattle.fewest.specs.Sets.{free, QuietSet, Collected, SetPut}
+use Rattle.fewest.specs.Sets.{QuietSet, Collected, SetPut}
 use Rattle.fewest.proofs.Columns.{rank_on, rank_off, rank_below}
 
 -- does row i put bit j

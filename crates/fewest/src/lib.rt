@@ -1,4 +1,6 @@
 // The fewest presses among all ways, and the fewest lamps among all sets that show that there is none.
+#![tactic(auto)]
+
 ghost use Rattle.std.specs.Prelude.{◌≡◌, ℕ, ◌+◌, ◌*◌, ◌/◌, ◌<◌, ◌≤◌, true, false, length};
 ghost use Rattle.gf2.specs.Rows.{Rows, tally};
 ghost use Rattle.gf2.specs.Reduction.{Tracks, Pivots};

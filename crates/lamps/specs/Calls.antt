@@ -1,5 +1,5 @@
 -- A board of lamps, the calls on it, how each changes it, and what may be answered. Assumes nothing: these are definitions.
-use Rattle.std.specs.Prelude.{◌≡◌, ℕ, zero, suc, ◌+◌, ◌*◌, ◌<◌, ◌≤◌, Bool, true, false, not, ◌&&◌, List, [], ◌∷◌, ◌++◌, length, set, ◌==◌, nat_lt, slice_set}
+use Rattle.std.specs.Prelude.{◌≡◌, ℕ, zero, suc, ◌+◌, ◌*◌, ◌<◌, ◌≤◌, Bool, true, false, not, ◌&&◌, List, [], ◌∷◌, ◌++◌, length, ◌==◌, nat_lt, slice_set}
 use Rattle.gf2.specs.Rows.{pick}
 use Rattle.lamps.specs.Lamps.{Lamps, at, Wire, wired, pressed, how_many, puts_out, quiet, odd_of, none_lit}
 

@@ -1,4 +1,6 @@
 // What holds of every board of lamps, and of some small ones. Each function does nothing: its contract is a theorem.
+#![tactic(auto)]
+
 ghost use Rattle.lamps.specs.Promise.{AllOn, OneOrOther, AnyOrder, AsMany, EvenQuiet, SideBySide};
 ghost use Rattle.lamps.specs.Boards.{Boards};
 

@@ -1,4 +1,6 @@
 // The lines of a text, read from bytes: calls, and claims about a board.
+#![tactic(auto)]
+
 ghost use Rattle.std.specs.Prelude.{◌≡◌, ◌<◌, ◌≤◌, max, drop, slice_index};
 ghost use Rattle.lines.specs.Readers.{has as holds, here, pair, found, ends, word, number as numeral, goes_on, binary, bits};
 ghost use Rattle.lines.specs.Laws.{OfLines, OfClaims};

@@ -1,3 +1,5 @@
+#![tactic(auto)]
+
 // Examples of lines, read: each form, and where other lines are refused.
 #[cfg(test)]
 mod tests {

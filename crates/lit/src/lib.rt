@@ -1,4 +1,6 @@
 // What is lit, as a row of bits in lent memory: a lamp is turned, buttons are pressed.
+#![tactic(auto)]
+
 ghost use Rattle.std.specs.Prelude.{◌≡◌, ℕ, ◌*◌, ◌<◌, true, false, not, List, length, set, ◌==◌, slice_set};
 ghost use Rattle.gf2.specs.Rows.{differ};
 ghost use Rattle.lamps.specs.Lamps.{Lamps, at, none_lit, all_off, Wire, pressed};

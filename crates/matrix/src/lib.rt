@@ -1,4 +1,6 @@
 // A matrix of bits in lent memory: rows of `width` words, one after another. A row is a part of the memory that starts in its middle.
+#![tactic(auto)]
+
 ghost use Rattle.std.specs.Prelude.{◌≡◌, ◌+◌, ◌*◌, ◌/◌, ◌<◌, ◌≤◌, length, ◌≢◌};
 ghost use Rattle.gf2.specs.Rows.{nowhere, only, dot};
 ghost use Rattle.bits.specs.Bits.{bit_of};

@@ -1,5 +1,5 @@
 -- The parts of the lent slices that are asked for, and what is past them. Assumes nothing.
-use Rattle.std.proofs.Common.{◌≡◌, ℕ, ◌+◌, ◌*◌, ◌<◌, ◌≤◌, true, List, ◌++◌, length, take, drop, Err, sym, refl, ap, ◌∙◌, subst, ap₂}
+use Rattle.std.proofs.Common.{◌≡◌, ℕ, true, List, ◌++◌, length, take, drop, Err, sym, refl, ap, ◌∙◌, subst, ap₂}
 use Rattle.std.proofs.lemmas.List.{take_at, drop_at, take-append-drop}
 use Rattle.lamps.specs.Calls.{Board, Answer, refused, number, lamps, fewest, some_way, never, garbled, turned, place}
 use Rattle.lamps.specs.Promise.{Memory, new_board}

@@ -1,4 +1,6 @@
 // A session: a board is opened in lent memory, and calls in bytes are answered in bytes.
+#![tactic(auto)]
+
 ghost use Rattle.std.specs.Prelude.{◌≡◌, ◌≤◌, true, false, length, MatchResult};
 ghost use Rattle.matrix.specs.Cells.{width_of};
 ghost use Rattle.lamps.specs.Calls.{Board as Wall};

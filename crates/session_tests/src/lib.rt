@@ -1,3 +1,5 @@
+#![tactic(auto)]
+
 // Boards that are opened, wired, lit and put out by bytes.
 #[cfg(test)]
 mod tests {

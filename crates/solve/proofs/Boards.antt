@@ -1,8 +1,8 @@
 -- What the rows in steps say of a board. Assumes nothing.
-use Rattle.std.proofs.Common.{◌≡◌, ℕ, ◌<◌, ◌≤◌, Bool, true, false, ◌⊎◌, List, length, sym, refl, ap, ◌∙◌, inl, inr, true≢false, arith}
+use Rattle.std.proofs.Common.{◌≡◌, ℕ, ◌<◌, ◌≤◌, Bool, true, false, List, length, sym, ap, ◌∙◌, inl, inr, true≢false, arith}
 use Rattle.std.proofs.lemmas.Bool.{cases_Bool}
 use Rattle.std.proofs.lemmas.List.{get_or_past}
-use Rattle.gf2.specs.Rows.{Row, Rows, Same, tally, act}
+use Rattle.gf2.specs.Rows.{Row, Rows, tally, act}
 use Rattle.gf2.specs.Reduction.{Tracks, Pivots, unowned}
 use Rattle.gf2.proofs.Rows.{dot_right}
 use Rattle.gf2.proofs.Pivots.{owners, owners_own}

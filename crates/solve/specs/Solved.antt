@@ -1,5 +1,5 @@
 -- What is read off a system in reduced steps. A is the system, R its rows in steps, T what was done to them, c the pivots, s what is lit. Assumes nothing: these are definitions.
-use Rattle.std.specs.Prelude.{◌≡◌, ℕ, ◌<◌, ◌≤◌, Bool, true, false, List, [], length, nat_le}
+use Rattle.std.specs.Prelude.{◌≡◌, ℕ, ◌≤◌, Bool, true, false, List, [], length, nat_le}
 use Rattle.gf2.specs.Rows.{Row, Rows, Same, dot, act}
 use Rattle.gf2.specs.Reduction.{LeftQuiet, Tracks, Pivots}
 use Rattle.lamps.specs.Lamps.{Lamps, Wire, listed, odd_of, puts_out, quiet}

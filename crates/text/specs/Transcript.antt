@@ -1,5 +1,5 @@
 -- What is answered to each line of a text. Assumes nothing: these are definitions.
-use Rattle.std.specs.Prelude.{◌≡◌, ℕ, ◌*◌, Bool, true, false, cond, eqb, List, [], ◌∷◌, ◌++◌, Some, None, Ok, Err, Option, Result}
+use Rattle.std.specs.Prelude.{◌≡◌, ℕ, ◌*◌, Bool, true, false, List, [], ◌∷◌, ◌++◌, Some, None, Ok, Err, Option, Result}
 use Rattle.lamps.specs.Lamps.{Wire}
 use Rattle.lamps.specs.Calls.{Board, wires, turns, presses, lit, out, ways}
 use Rattle.lamps.specs.Boards.{grid}

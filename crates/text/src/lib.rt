@@ -1,4 +1,6 @@
 // Calls in text: a line for each call, and a line for each answer. A board has at most 64 lamps.
+#![tactic(auto)]
+
 ghost use Rattle.std.specs.Prelude.{◌≡◌, ◌+◌, ◌*◌, ◌%◌, ◌<◌, ◌≤◌, false, List, [], ◌∷◌, ◌++◌, length, IfOk, string_bytes, ◌==◌, ◌≢◌, nat_lt};
 ghost use Rattle.gf2.specs.Rows.{pick};
 ghost use Rattle.lamps.specs.Lamps.{Wire, listed, wired};

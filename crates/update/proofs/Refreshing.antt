@@ -1,7 +1,7 @@
 -- The marked rows are replaced one after the other. Assumes nothing.
-use Rattle.std.proofs.Common.{◌≡◌, ℕ, ◌+◌, ◌<◌, ◌≤◌, true, false, ◌≢◌, ◌⊎◌, List, sym, refl, ◌∙◌, subst, inl, inr, arith}
-use Rattle.std.proofs.lemmas.Bool.{cases_eq, cases_lt}
-use Rattle.gf2.specs.Rows.{Row, Rows, Same}
+use Rattle.std.proofs.Common.{◌≡◌, ℕ, ◌+◌, ◌<◌, ◌≤◌, false, ◌⊎◌, List, sym, ◌∙◌, subst, inl, inr, arith}
+use Rattle.std.proofs.lemmas.Bool.{cases_eq}
+use Rattle.gf2.specs.Rows.{Rows, Same}
 use Rattle.gf2.specs.Reduction.{Tracks, Pivots, put_row}
 use Rattle.gf2.proofs.Update.{put_row_puts, tracks_same}
 use Rattle.bits.specs.Bits.{bit_of}

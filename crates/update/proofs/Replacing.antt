@@ -1,7 +1,7 @@
 -- A row is put, and the steps are kept. Assumes nothing.
-use Rattle.std.proofs.Common.{◌≡◌, ℕ, ◌+◌, ◌<◌, ◌≤◌, true, false, ◌≢◌, List, sym, ◌∙◌, subst, inl, inr, arith}
+use Rattle.std.proofs.Common.{◌≡◌, ℕ, ◌<◌, ◌≤◌, false, List, sym, ◌∙◌, subst, inl, inr, arith}
 use Rattle.std.proofs.lemmas.Bool.{cases_eq, ne_eqb}
-use Rattle.gf2.specs.Rows.{Row, Rows, only}
+use Rattle.gf2.specs.Rows.{Row, only}
 use Rattle.gf2.specs.Reduction.{PutsRow}
 use Rattle.gf2.proofs.Update.{freeing_end}
 use Rattle.matrix.specs.Cells.{cell, Spare}

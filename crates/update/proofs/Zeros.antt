@@ -1,9 +1,8 @@
 -- The steps of a system of zeros; and from those the steps of any. Assumes nothing.
-use Rattle.std.proofs.Common.{◌≡◌, ℕ, ◌+◌, ◌<◌, ◌≤◌, true, false, eqb, ◌≢◌, List, sym, refl, ap, ◌∙◌, subst, ap₂, inl, inr, arith}
+use Rattle.std.proofs.Common.{◌≡◌, ℕ, ◌+◌, ◌<◌, false, eqb, List, sym, refl, ◌∙◌, ap₂, inl, inr, arith}
 use mathlib.Core.Bool.{false≢true}
 use Rattle.std.proofs.lemmas.Bool.{cases_eq, eq-eqb, ne_eqb}
-use Rattle.gf2.specs.Rows.{differ, Rows, nowhere}
-use Rattle.gf2.proofs.Rows.{sum_off}
+use Rattle.gf2.specs.Rows.{differ, nowhere}
 use Rattle.gf2.proofs.Tracks.{tracks_start}
 use Rattle.bits.specs.Bits.{bit_of}
 use Rattle.matrix.proofs.Memory.{cell_clear}

@@ -1,4 +1,6 @@
 // A row of the system is replaced by another while its steps are kept.
+#![tactic(auto)]
+
 ghost use Rattle.std.specs.Prelude.{◌≡◌, ℕ, ◌+◌, ◌*◌, ◌/◌, ◌<◌, ◌≤◌, false, length};
 ghost use Rattle.gf2.specs.Rows.{only, nowhere};
 ghost use Rattle.bits.specs.Bits.{bit_of};

@@ -1,4 +1,6 @@
 // Checks claims about a board of lamps, from a file or from standard input, without any solver.
+#![tactic(auto)]
+
 use std::io::Read;
 use std::{env, fs, io};
 

@@ -1,5 +1,7 @@
 // Long lists of calls at random, on a session that keeps its steps and on one that starts from nothing before each answer: both have to say the same.
 // On small boards all presses are gone through besides, and the answers have to be what that finds.
+#![tactic(auto)]
+
 use std::alloc::{AllocError, Global};
 use wires::Board;
 

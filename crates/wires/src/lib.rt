@@ -1,4 +1,6 @@
 // Wires between lamps, as a row of bits for each lamp in lent memory: row `i` has bit `j` set if pressing `i` changes `j`.
+#![tactic(auto)]
+
 ghost use Rattle.std.specs.Prelude.{◌≡◌, ◌*◌, ◌<◌, List, [], length, ◌≢◌};
 ghost use Rattle.lamps.specs.Lamps.{Wire, wired};
 ghost use Rattle.lamps.specs.Calls.{rewired};

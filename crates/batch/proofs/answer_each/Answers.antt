@@ -1,4 +1,4 @@
-use Rattle.std.proofs.Common.{◌≡◌, ◌+◌, ◌*◌, ◌<◌, ◌≤◌, length, sym, refl, ap, ◌∙◌, subst, arith, rules}
+use Rattle.std.proofs.Common.{◌≡◌, length, refl, arith, rules}
 use Rattle.matrix.proofs.Memory.{row_within}
 use Rattle.session.specs.Lent.{answer_bytes}
 use Rattle.batch.proofs.Standing.{answers_none, answers_more, answers_upto}

@@ -1,4 +1,3 @@
-use Rattle.std.proofs.Common.{◌≡◌, ℕ, length}
 use Rattle.lamps.specs.Calls.{Board}
 use Rattle.desk.specs.Holding.{lent, Holds}
 use Rattle.session.specs.Lent.{answer_bytes}

@@ -1,4 +1,4 @@
-use Rattle.std.proofs.Common.{◌≡◌, sym, refl, ap, ◌∙◌, ap₂, arith}
+use Rattle.std.proofs.Common.{sym, ap, ◌∙◌, ap₂, arith}
 use mathlib.Core.Bool.{false≢true}
 use Rattle.calls.specs.Saying.{meant}
 use Rattle.desk.specs.Holding.{lent}

@@ -1,4 +1,4 @@
-use Rattle.std.proofs.Common.{◌≡◌, ◌*◌, ◌^◌, ◌<◌, ◌≤◌, pos, ap, ◌∙◌, inl, arith, w64, rules}
+use Rattle.std.proofs.Common.{◌≡◌, ◌*◌, ◌^◌, ◌<◌, pos, ap, ◌∙◌, inl, arith, w64, rules}
 use Rattle.std.proofs.lemmas.Int.{to_z_pos}
 use Rattle.matrix.specs.Cells.{width_of}
 use Rattle.session.specs.Lent.{table_words}

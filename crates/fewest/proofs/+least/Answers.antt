@@ -1,4 +1,4 @@
-use Rattle.std.proofs.Common.{◌≡◌, ℕ, suc, ◌-◌, ◌*◌, ◌^◌, ◌<◌, Bool, true, length, get_or, sym, refl, ap, ◌∙◌, subst, arith, rules}
+use Rattle.std.proofs.Common.{◌≡◌, ℕ, suc, ◌-◌, ◌*◌, ◌^◌, ◌<◌, Bool, get_or, sym, refl, ap, ◌∙◌, subst, arith, rules}
 use Rattle.gf2.specs.Rows.{Row, differ, tally}
 use Rattle.bits.specs.Bits.{bit_of}
 use Rattle.matrix.proofs.Memory.{part_row}

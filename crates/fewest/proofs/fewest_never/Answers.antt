@@ -1,4 +1,4 @@
-use Rattle.std.proofs.Common.{◌≡◌, ◌+◌, ◌*◌, ◌/◌, ◌≤◌, mul-le-mul_right, arith}
+use Rattle.std.proofs.Common.{◌+◌, ◌*◌, ◌/◌, ◌≤◌, mul-le-mul_right, arith}
 use Rattle.fewest.proofs.Solutions.{zero_spans, never_fewest}
 use Rattle.fewest.proofs.fewest_never.Goals as goal
 

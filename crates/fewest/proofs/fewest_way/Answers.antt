@@ -1,4 +1,4 @@
-use Rattle.std.proofs.Common.{◌≡◌, ℕ, ◌+◌, ◌*◌, ◌/◌, ◌≤◌, sym, refl, ◌∙◌, subst, mul-le-mul_right, arith}
+use Rattle.std.proofs.Common.{◌≡◌, ◌+◌, ◌*◌, ◌/◌, ◌≤◌, sym, refl, ◌∙◌, subst, mul-le-mul_right, arith}
 use Rattle.bits.specs.Bits.{bit_of}
 use Rattle.matrix.specs.Cells.{cell}
 use Rattle.echelon.specs.Steps.{column_of}

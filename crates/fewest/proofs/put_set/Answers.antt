@@ -1,4 +1,4 @@
-use Rattle.std.proofs.Common.{◌≡◌, ◌+◌, ◌/◌, length, sym, ap, ◌∙◌, subst, arith, length-drop, length-take}
+use Rattle.std.proofs.Common.{◌≡◌, ◌+◌, ◌/◌, length, sym, ◌∙◌, subst, arith, length-drop, length-take}
 use Rattle.bits.specs.Bits.{bit_of}
 use Rattle.matrix.proofs.Memory.{row_written, row_around}
 use Rattle.matrix.specs.Cells.{cell}

@@ -1,4 +1,4 @@
-use Rattle.std.proofs.Common.{◌≡◌, ℕ, ◌+◌, ◌-◌, ◌*◌, ◌≤◌, length, take, sym, refl, ap, ◌∙◌, arith, length-drop, length-take}
+use Rattle.std.proofs.Common.{◌≡◌, ◌-◌, ◌*◌, take, refl, ap, ◌∙◌, arith, length-drop, length-take}
 use Rattle.matrix.specs.Cells.{width_of}
 use Rattle.session.specs.Lent.{table_words}
 use Rattle.session.proofs.Parts.{lent_same, part, answered_as, lifted}

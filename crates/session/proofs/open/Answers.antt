@@ -1,4 +1,4 @@
-use Rattle.std.proofs.Common.{◌≡◌, ℕ, ◌+◌, ◌*◌, ◌≤◌, length, sym, refl, ap, ◌∙◌, subst, arith, length-drop, length-take}
+use Rattle.std.proofs.Common.{◌≡◌, ◌*◌, refl, ap, ◌∙◌, subst, arith, length-drop, length-take}
 use Rattle.matrix.specs.Cells.{width_of}
 use Rattle.desk.specs.Holding.{lent}
 use Rattle.session.specs.Lent.{table_words, Long}

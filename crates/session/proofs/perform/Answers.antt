@@ -1,4 +1,4 @@
-use Rattle.std.proofs.Common.{◌≡◌, sym, refl, ap, arith}
+use Rattle.std.proofs.Common.{sym, refl, ap, arith}
 use Rattle.calls.specs.Saying.{asked}
 use Rattle.desk.proofs.Taken.{performs_as}
 use Rattle.session.proofs.Parts.{unread_performs}

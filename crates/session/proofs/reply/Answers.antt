@@ -1,4 +1,4 @@
-use Rattle.std.proofs.Common.{◌≡◌, ◌+◌, ◌/◌, ◌≤◌, sym, ap, ◌∙◌, arith}
+use Rattle.std.proofs.Common.{◌≤◌, arith}
 use Rattle.calls.specs.Saying.{lamps_of, said}
 use Rattle.session.proofs.Parts.{said_refuses}
 use Rattle.session.proofs.reply.Goals as goal

@@ -1,4 +1,4 @@
-use Rattle.std.proofs.Common.{◌≡◌, true, false, is_ok, string_bytes, ap, ◌∙◌}
+use Rattle.std.proofs.Common.{true, false, string_bytes, ap, ◌∙◌}
 use Rattle.text.proofs.Shown.{shown_none, shown_more, pushed}
 use Rattle.text.proofs.digits.Goals.{then-get+in_ok-push_str, else-get+in_ok-push_str-2}
 use Rattle.text.proofs.digits.Goals as goal

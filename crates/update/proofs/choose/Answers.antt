@@ -1,7 +1,7 @@
 use Rattle.std.proofs.Common.{ℕ, ◌+◌, ◌/◌, sym, subst, arith}
 use Rattle.matrix.proofs.Memory.{row_within}
 use Rattle.echelon.specs.Steps.{column_of}
-use Rattle.update.proofs.Choosing.{SoFar, so_far_none, so_far_skip, so_far_take, taking_zero, taking_end}
+use Rattle.update.proofs.Choosing.{SoFar, so_far_none, so_far_skip, so_far_take, taking_end}
 use Rattle.update.proofs.choose.Goals as goal
 use Rattle.update.proofs.choose.Goals.{then-has+else-pivots-i, else-has}
 

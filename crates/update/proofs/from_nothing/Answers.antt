@@ -1,4 +1,4 @@
-use Rattle.std.proofs.Common.{◌≡◌, ◌+◌, ◌/◌, ap, subst}
+use Rattle.std.proofs.Common.{◌+◌, ◌/◌, subst}
 use Rattle.matrix.specs.Cells.{cell}
 use Rattle.echelon.specs.Steps.{column_of, InSteps}
 use Rattle.update.proofs.from_nothing.Goals as goal

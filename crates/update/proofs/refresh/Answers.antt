@@ -1,4 +1,4 @@
-use Rattle.std.proofs.Common.{◌≡◌, ℕ, ◌+◌, ◌*◌, ◌/◌, List, length, sym, ◌∙◌, subst, arith}
+use Rattle.std.proofs.Common.{◌≡◌, ℕ, ◌+◌, ◌*◌, ◌/◌, List, length, sym, ◌∙◌, subst}
 use Rattle.echelon.specs.Steps.{column_of}
 use Rattle.update.proofs.Refreshing.{Refreshing, refreshing_none, refreshing_skip, refreshing_row, refreshing_end}
 use Rattle.update.proofs.refresh.Goals as goal

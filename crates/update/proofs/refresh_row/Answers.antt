@@ -1,6 +1,6 @@
-use Rattle.std.proofs.Common.{◌≡◌, ◌+◌, ◌*◌, ◌/◌, ◌≤◌, length, sym, ◌∙◌, subst, arith, length-drop, length-take, rules}
+use Rattle.std.proofs.Common.{◌+◌, ◌/◌, subst, rules}
 use Rattle.bits.specs.Bits.{bit_of}
-use Rattle.matrix.proofs.Memory.{row_within, part_row, length_row}
+use Rattle.matrix.proofs.Memory.{row_within, part_row}
 use Rattle.echelon.specs.Steps.{column_of}
 use Rattle.update.specs.Said.{Replaces}
 use Rattle.update.proofs.refresh_row.Goals as goal
