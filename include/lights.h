@@ -3,7 +3,7 @@
  * lamp it is wired to. The desk finds fewest presses that put all out, or a set of lamps that shows
  * that there is no way, and says how many ways there are.
  *
- * Link with libexports.a (`rt staticlib exports`), which needs memcpy and memset and nothing else.
+ * Link with libexports.a (`tools/library` builds it), which needs memcpy, memmove and memset.
  * Nothing is allocated, no file or clock is used: a board lives in memory that the caller lends, and
  * boards in different memory are independent.
  *

@@ -1,4 +1,4 @@
-//! Links the library that `rt staticlib exports` writes.
+//! Links the library that `tools/library` builds.
 
 use std::path::Path;
 
@@ -8,7 +8,7 @@ fn main() {
     println!("cargo::rerun-if-changed={}", library.display());
     if !library.is_file() {
         println!(
-            "cargo::error=target/staticlib/libexports.a is missing: run `rt staticlib exports` first"
+            "cargo::error=target/staticlib/libexports.a is missing: run `tools/library` first"
         );
         return;
     }

@@ -2,7 +2,7 @@
 #![tactic(auto)]
 
 ghost use Rattle.std.specs.Prelude.{◌≡◌, ℕ, ◌≤◌, List, [], length, IfOk, Some, None, Ok, string_bytes, Option};
-ghost use Rattle.lamps.specs.Calls.{Board as Wall, wires as wires-call, turns};
+ghost use Rattle.lamps.specs.Calls.{Board as Wall, wires as wires_call, turns};
 ghost use Rattle.checker.specs.Replies.{said, Small, Holding, Held, Answered, Called, Opens, Refuses};
 ghost use Rattle.lines.specs.Texts.{lines_from};
 ghost use Rattle.checker.specs.Texts.{line_found, line_for, Verdicts};
@@ -42,7 +42,7 @@ fn open(wires: &mut [u64], lit: &mut [u64], n: u16) -> Option<Board>
 fn wire(board: Board, wires: &mut [u64], i: u16, j: u16) -> Reply
     requires small { board.lamps ≤ 64 }
     requires wires { length wires.old ≡ 64 }
-    ensures { (b : Wall) (lit : List ℕ) → Holding board.lamps wires.old lit b → Called board.lamps wires.new lit b (wires-call i j) result }
+    ensures { (b : Wall) (lit : List ℕ) → Holding board.lamps wires.old lit b → Called board.lamps wires.new lit b (wires_call i j) result }
 {
     if i >= board.lamps {
         return Reply::Refused(4, 0);

@@ -128,7 +128,7 @@ fn out(
     }
 }
 
-// One more than the power of two that the number of ways is, or 0 if there is none.
+// k + 1 if there are 2^k ways, or 0 if there is none.
 fn ways(
     board: Board,
     wires: &[u64],

@@ -20,11 +20,10 @@ fn refused(refusal: Refusal) -> i64
 fn board_of(lamps: u64) -> Option<Board>
     ensures { elim result [ Some b ↦ (b.lamps ≡ lamps) | None ↦ NoBoard lamps ] }
 {
-    if lamps <= 1024 {
-        Board::new(lamps as u16)
-    } else {
-        None
-    }
+    let Ok(small) = u16::try_from(lamps) else {
+        return None;
+    };
+    Board::new(small)
 }
 
 // How many words each of `wires`, `rows` and `done` must have at least.

@@ -9,7 +9,7 @@ use Rattle.calls.specs.Bytes.{Put}
 use Rattle.calls.specs.Saying.{called, written}
 use Rattle.desk.specs.Holding.{lent, Holds, Performs}
 
--- how long each slice must be for n lamps: in words the three with a row for each lamp, in numbers the pivots, in words the two rows
+-- how many words each of the three tables has: a row for each lamp
 abbrev pub table_words : ℕ → ℕ
 table_words n = n * width_of n
 

@@ -10,7 +10,7 @@ use Rattle.lines.specs.Texts.{refusal_line}
 abbrev pub opened : ℕ → List ℕ
 opened n = codes "lamps " ++ (decimal n ++ codes "\n")
 
--- a number: of ways, one more than the power of two, or 0 if there is none; else the lamp of a call
+-- a number: of ways, k + 1 if there are 2^k, or 0 if there is none; else the lamp of a call
 abbrev pub lamp : ℕ → List ℕ
 lamp k = codes "lamp " ++ (decimal k ++ codes "\n")
 

@@ -45,7 +45,7 @@ fn refusal(heap: Global, number: u8, place: usize) -> Result<String, AllocError>
     format!(in heap; "refused {number} at {place}\n")
 }
 
-// How many ways there are, by one more than a power of two, or 0 if there is none.
+// How many ways there are: 2^(k - 1), or none where `k` is 0.
 fn ways(heap: Global, k: u16) -> Result<String, AllocError>
     ensures { IfOk result (λ s. string_bytes s ≡ so_many k) }
 {
