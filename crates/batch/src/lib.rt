@@ -1,7 +1,7 @@
 // A whole list of calls is answered, each answer in a part of its own.
 #![tactic(auto)]
 
-ghost use Rattle.std.specs.Prelude.{◌≡◌, ℕ, ◌+◌, ◌*◌, ◌≤◌, List, length, take, drop};
+ghost use Rattle.std.specs.Prelude.{◌≡◌, ◌+◌, ◌*◌, ◌≤◌, length, take, drop};
 ghost use Rattle.lamps.specs.Calls.{Board as Wall, Answer as Said};
 ghost use Rattle.matrix.specs.Cells.{width_of};
 ghost use Rattle.calls.specs.Saying.{meant, written};

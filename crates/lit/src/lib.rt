@@ -1,7 +1,7 @@
 // What is lit, as a row of bits in lent memory: a lamp is turned, buttons are pressed.
 #![tactic(auto)]
 
-ghost use Rattle.std.specs.Prelude.{◌≡◌, ℕ, ◌*◌, ◌<◌, true, false, not, List, length, set, ◌==◌, slice_set};
+ghost use Rattle.std.specs.Prelude.{◌≡◌, ℕ, ◌*◌, ◌<◌, true, false, not, List, length, ◌==◌, slice_set};
 ghost use Rattle.gf2.specs.Rows.{differ};
 ghost use Rattle.lamps.specs.Lamps.{Lamps, at, none_lit, all_off, Wire, pressed};
 ghost use Rattle.bits.specs.Bits.{bit_of};

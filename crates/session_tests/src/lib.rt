@@ -119,7 +119,7 @@ mod tests {
 
     #[test]
     fn walls_are_put_out(rt: HostRuntime) -> Result<(), Fail> {
-        // lamps, across, rows, what is lit, the answer's number, how many lamps it has, and k + 1 if there are 2^k ways
+        // lamps, across, rows, what is lit, the answer's number, how many lamps it has, and one more than the power of two that the ways are
         let table: [(u16, u16, bool, u64, u8, u32, u16); 12] = [
             (4, 2, true, 0b1111, 3, 4, 1),
             (4, 2, true, 0b0001, 3, 3, 1),

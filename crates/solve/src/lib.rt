@@ -1,7 +1,7 @@
 // Reads off a system in reduced steps: presses that make what is lit, or the lamps that show that there are none, and how many ways there are.
 #![tactic(auto)]
 
-ghost use Rattle.std.specs.Prelude.{◌≡◌, ℕ, ◌+◌, ◌*◌, ◌/◌, ◌<◌, ◌≤◌, List, length};
+ghost use Rattle.std.specs.Prelude.{◌≡◌, ℕ, ◌+◌, ◌*◌, ◌/◌, ◌≤◌, List, length};
 ghost use Rattle.gf2.specs.Rows.{Rows, tally};
 ghost use Rattle.gf2.specs.Reduction.{Tracks, Pivots};
 ghost use Rattle.lamps.specs.Lamps.{Lamps, Wire, at, table};
