@@ -1,9 +1,10 @@
 -- A call is refused by its number, or taken. Assumes nothing.
-use Rattle.std.proofs.Common.{◌≡◌, ℕ, suc, ◌<◌, ◌≤◌, true, false, ◌&&◌, eqb, ltb, ◌≢◌, length, sym, refl, ap, ◌∙◌, subst, ap₂, arith}
-use Rattle.std.proofs.lemmas.Bool.{lt-ltb, le-ltb, eq-eqb, ne_eqb}
+use Rattle.std.proofs.Common.{◌≡◌, ℕ, suc, ◌<◌, ◌≤◌, true, false, eqb, ◌≢◌, sym, refl, ap, ◌∙◌, subst, arith}
+use Rattle.std.proofs.lemmas.Bool.{eq-eqb, ne_eqb}
 use Rattle.gf2.specs.Rows.{pick}
 use Rattle.lamps.specs.Calls.{Board, Call, Answer, wires, turns, presses, refused, turned, place, changed, MaySay, IsRightIf}
 use Rattle.lamps.specs.Promise.{Memory}
+use Rattle.lamps.proofs.Refusals as refusals
 use Rattle.desk.specs.Holding.{Holds, Performs}
 
 module _ (m : Memory) (b : Board) (c : Call) (h : Holds m b) where
@@ -35,43 +36,31 @@ performs_as {m} {m'} {b} {c} {d} {a} e = subst (λ x. Performs m m' b x a) (sym 
 
 -- which refusal comes first
 module _ (m : Memory) (b : Board) (h : Holds m b) where
-  there_is : (i : ℕ) → i < m.lamps → ltb i (length b.on) ≡ true
-  there_is i l = lt-ltb i (length b.on) (omega (arith, h.lit.long))
-
-  not_there : (i : ℕ) → m.lamps ≤ i → ltb i (length b.on) ≡ false
-  not_there i g = le-ltb i (length b.on) (omega (arith, h.lit.long))
-
   pub wire_no_first : (i j : ℕ) → m.lamps ≤ i → Performs m m b (wires i j) (refused 4 0)
-  unfolding turned place
-  wire_no_first i j g = performs_refused m b (wires i j) h 3 0 (ap (λ t. pick (t && ltb j (length b.on)) (pick (eqb i j) 2 0) 4) (not_there i g)) refl
+  unfolding place
+  wire_no_first i j g = performs_refused m b (wires i j) h 3 0 (refusals.wire_no_first b m.lamps h.lit.long i j g) refl
 
   pub wire_no_second : (i j : ℕ) → i < m.lamps → m.lamps ≤ j → Performs m m b (wires i j) (refused 4 0)
-  unfolding turned place
-  wire_no_second i j l g = performs_refused m b (wires i j) h 3 0 (ap₂ (λ t u. pick (t && u) (pick (eqb i j) 2 0) 4) (there_is i l) (not_there j g)) refl
-
-  both_there : (i j : ℕ) → i < m.lamps → j < m.lamps → turned b (wires i j) ≡ pick (eqb i j) 2 0
-  unfolding turned
-  both_there i j l k = ap₂ (λ t u. pick (t && u) (pick (eqb i j) 2 0) 4) (there_is i l) (there_is j k)
+  unfolding place
+  wire_no_second i j l g = performs_refused m b (wires i j) h 3 0 (refusals.wire_no_second b m.lamps h.lit.long i j l g) refl
 
   pub wire_itself : (i j : ℕ) → i < m.lamps → j < m.lamps → i ≡ j → Performs m m b (wires i j) (refused 2 0)
   unfolding place
-  wire_itself i j l k e = performs_refused m b (wires i j) h 1 0 (both_there i j l k ∙ ap (λ t. pick t 2 0) (eq-eqb i j e)) refl
+  wire_itself i j l k e = performs_refused m b (wires i j) h 1 0 (refusals.wire_itself b m.lamps h.lit.long i j l k e) refl
 
   pub wire_taken : (i j : ℕ) → i < m.lamps → j < m.lamps → i ≢ j → turned b (wires i j) ≡ 0
-  wire_taken i j l k ne = both_there i j l k ∙ ap (λ t. pick t 2 0) (ne_eqb i j ne)
+  wire_taken i j l k ne = refusals.wire_taken b m.lamps h.lit.long i j l k ne
 
   pub turn_no_lamp : (i : ℕ) → m.lamps ≤ i → Performs m m b (turns i) (refused 4 0)
-  unfolding turned place
-  turn_no_lamp i g = performs_refused m b (turns i) h 3 0 (ap (λ t. pick t 0 4) (not_there i g)) refl
+  unfolding place
+  turn_no_lamp i g = performs_refused m b (turns i) h 3 0 (refusals.turn_no_lamp b m.lamps h.lit.long i g) refl
 
   pub turn_taken : (i : ℕ) → i < m.lamps → turned b (turns i) ≡ 0
-  unfolding turned
-  turn_taken i l = ap (λ t. pick t 0 4) (there_is i l)
+  turn_taken i l = refusals.turn_taken b m.lamps h.lit.long i l
 
   pub press_no_lamp : (i : ℕ) → m.lamps ≤ i → Performs m m b (presses i) (refused 4 0)
-  unfolding turned place
-  press_no_lamp i g = performs_refused m b (presses i) h 3 0 (ap (λ t. pick t 0 4) (not_there i g)) refl
+  unfolding place
+  press_no_lamp i g = performs_refused m b (presses i) h 3 0 (refusals.press_no_lamp b m.lamps h.lit.long i g) refl
 
   pub press_taken : (i : ℕ) → i < m.lamps → turned b (presses i) ≡ 0
-  unfolding turned
-  press_taken i l = ap (λ t. pick t 0 4) (there_is i l)
+  press_taken i l = refusals.press_taken b m.lamps h.lit.long i l

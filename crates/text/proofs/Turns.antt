@@ -1,18 +1,13 @@
 -- Line after line is answered. Assumes nothing.
-use Rattle.std.proofs.Common.{◌≡◌, ℕ, ◌+◌, ◌-◌, ◌<◌, ◌≤◌, cond, List, [], ◌∷◌, ◌++◌, length, get_or, take, drop, Option, sym, refl, ap, ◌∙◌, subst, append_assoc, append-nil, arith, length-drop}
-use Rattle.std.proofs.lemmas.List.{take_more, drop_more, drop_all, get_or-drop}
-use Rattle.std.proofs.lemmas.Bool.{eq-eqb, ne_eqb}
+use Rattle.std.proofs.Common.{◌≡◌, ℕ, ◌+◌, ◌<◌, ◌≤◌, ◌≢◌, List, [], ◌++◌, length, get_or, drop, Option, sym, refl, ap, ◌∙◌, subst, append_assoc, append-nil, arith}
 use Rattle.lamps.specs.Calls.{Board}
 use Rattle.lamps.specs.Promise.{Memory}
 use Rattle.desk.specs.Holding.{lent}
 use Rattle.lines.specs.Lines.{line_of}
 use Rattle.text.specs.Board.{Stands, Step}
 use Rattle.lines.specs.Texts.{lines_from}
+use Rattle.lines.proofs.Cut.{part, line_on, line_ends, line_last}
 use Rattle.text.specs.Transcript.{Answers, Answered, Transcript}
-
--- bytes `start` to i of a text
-abbrev pub so_far : List ℕ → ℕ → ℕ → List ℕ
-so_far text start i = take (i - start) (drop start text)
 
 -- before byte i, in the line that begins at `start`: what is said is said to the lines before, and the memory holds the board that they left
 pub record Sofar (text : List ℕ) (start i : ℕ) (m : Memory) (said : List ℕ) : Type 0 where
@@ -20,49 +15,32 @@ pub record Sofar (text : List ℕ) (start i : ℕ) (m : Memory) (said : List ℕ
   pub few : m.lamps ≤ 64
   pub board : Option Board
   pub stands : Stands m board
-  pub goes : (more : List ℕ) → Transcript board (lines_from (so_far text start i) (drop i text)) more → Answered text (said ++ more)
+  pub goes : (more : List ℕ) → Transcript board (lines_from (part text start i) (drop i text)) more → Answered text (said ++ more)
 
 module _ {text : List ℕ} {start i : ℕ} {m : Memory} {said : List ℕ} (old : Sofar text start i m said) (inside : i < length text) where
-  longer : so_far text start (i + 1) ≡ so_far text start i ++ (get_or text i 0 ∷ [])
-  longer =
-      let begun = old.begun in
-      let next : i + 1 - start ≡ (i - start) + 1 = omega arith in
-      let there : start + (i - start) ≡ i = omega arith in
-      ap (λ k. take k (drop start text)) next
-      ∙ take_more (drop start text) (i - start) 0 (simp length-drop (omega arith))
-      ∙ ap (λ b. so_far text start i ++ (b ∷ [])) (get_or-drop start text (i - start) 0 ∙ ap (λ k. get_or text k 0) there)
-
   -- a byte of the line
-  pub same_line : (get_or text i 0 ≡ 10 → ⊥) → Sofar text start (i + 1) m said
-  unfolding lines_from
+  pub same_line : get_or text i 0 ≢ 10 → Sofar text start (i + 1) m said
   same_line ne = record {
     begun = omega (arith, old.begun);
     few = old.few;
     board = old.board;
     stands = old.stands;
-    goes = λ more h. old.goes more (subst (λ r. Transcript old.board (lines_from (so_far text start i) r) more) (sym (drop_more text i 0 inside))
-        (subst (λ t. Transcript old.board (cond t (so_far text start i ∷ lines_from [] (drop (i + 1) text)) (lines_from (so_far text start i ++ (get_or text i 0 ∷ [])) (drop (i + 1) text))) more)
-        (sym (ne_eqb (get_or text i 0) 10 ne))
-        (subst (λ l. Transcript old.board (lines_from l (drop (i + 1) text)) more) longer h)));
+    goes = λ more h. old.goes more (subst (λ ls. Transcript old.board ls more) (sym (line_on text start i inside old.begun ne)) h);
   }
 
   -- the line ends, and is answered
-  pub next_line : (m' : Memory) (first said' : List ℕ) → get_or text i 0 ≡ 10 → m'.lamps ≤ 64 → Step (Answers (line_of (so_far text start i))) m m' first → said' ≡ said ++ first
+  pub next_line : (m' : Memory) (first said' : List ℕ) → get_or text i 0 ≡ 10 → m'.lamps ≤ 64 → Step (Answers (line_of (part text start i))) m m' first → said' ≡ said ++ first
       → Sofar text (i + 1) (i + 1) m' said'
-  unfolding lines_from Transcript
+  unfolding Transcript
   next_line m' first said' e few step says =
       let turn = step old.board old.stands in
-      let none : i + 1 - (i + 1) ≡ 0 = omega arith in
       record {
         begun = omega arith;
         few = few;
         board = turn.0;
         stands = turn.2;
         goes = λ more h. subst (λ s. Answered text s) (sym (append_assoc said first more) ∙ ap (λ s. s ++ more) (sym says))
-            (old.goes (first ++ more) (subst (λ r. Transcript old.board (lines_from (so_far text start i) r) (first ++ more)) (sym (drop_more text i 0 inside))
-            (subst (λ t. Transcript old.board (cond t (so_far text start i ∷ lines_from [] (drop (i + 1) text)) (lines_from (so_far text start i ++ (get_or text i 0 ∷ [])) (drop (i + 1) text))) (first ++ more))
-            (sym (eq-eqb (get_or text i 0) 10 e))
-            (first, more, turn.0, refl, turn.1, subst (λ k. Transcript turn.0 (lines_from (take k (drop (i + 1) text)) (drop (i + 1) text)) more) none h))));
+            (old.goes (first ++ more) (subst (λ ls. Transcript old.board ls (first ++ more)) (sym (line_ends text start i inside e)) (first, more, turn.0, refl, turn.1, h)));
       }
 
 -- so the loop stands, before byte i
@@ -85,10 +63,10 @@ going_as text i {start} {start'} {n} {n'} {ws} {ws'} {rs} {rs'} {ts} {ts'} {cs} 
 
 -- the last line
 pub last_line : {text : List ℕ} {start i : ℕ} {m : Memory} {said : List ℕ} → Sofar text start i m said → length text ≡ i → (m' : Memory) (first said' : List ℕ)
-    → Step (Answers (line_of (so_far text start (length text)))) m m' first → said' ≡ said ++ first → Answered text said'
-unfolding lines_from Transcript
+    → Step (Answers (line_of (part text start (length text)))) m m' first → said' ≡ said ++ first → Answered text said'
+unfolding Transcript
 last_line {text} {start} {i} {m} {said} old all m' first said' step says =
     let turn = step old.board old.stands in
     subst (λ s. Answered text s) (sym says)
-    (old.goes first (subst (λ r. Transcript old.board (lines_from (so_far text start i) r) first) (sym (drop_all i text (omega (arith, all))))
-    (first, [], turn.0, sym (append-nil first), subst (λ k. Answers (line_of (so_far text start k)) old.board first turn.0) all turn.1, refl)))
+    (old.goes first (subst (λ ls. Transcript old.board ls first) (sym (line_last text start i (omega (arith, all))))
+    (first, [], turn.0, sym (append-nil first), subst (λ k. Answers (line_of (part text start k)) old.board first turn.0) all turn.1, refl)))
