@@ -1,7 +1,8 @@
 -- The lowest set bit of a word, and of a row. Assumes nothing.
-use Rattle.std.proofs.Common.{◌≡◌, ℕ, zero, suc, ◌+◌, ◌*◌, ◌/◌, ◌%◌, ◌^◌, ◌<◌, ◌≤◌, true, false, eqb, List, length, get_or, refl, ap, ◌∙◌, inl, inr, arith}
+use Rattle.std.proofs.Common.{◌≡◌, ℕ, zero, suc, ◌+◌, ◌*◌, ◌/◌, ◌%◌, ◌^◌, ◌<◌, ◌≤◌, true, false, eqb, ltb, List, length, get_or, refl, ap, ◌∙◌, inl, inr, None, Some, arith}
 use lib.Count.{under, count_trailing_zeros}
-use Rattle.std.proofs.lemmas.Bool.{cases_lt}
+use Rattle.std.specs.Bool.{then_some}
+use Rattle.std.proofs.lemmas.Bool.{cases_lt, lt-ltb, le-ltb}
 use Rattle.bits.specs.Bits.{bit, bit_of}
 use Rattle.bits.specs.Said.{FirstSet}
 use Rattle.bits.proofs.Words.{bit_zero, bit_suc, bit_of_zero, half_below}
@@ -35,8 +36,8 @@ before_word : (ws : List ℕ) (i : ℕ) → Zeros ws i → (b : ℕ) → b / 64 
 before_word ws i zeros b l = ap (λ w. bit w (b % 64)) (zeros (b / 64) l) ∙ bit_of_zero (b % 64)
 
 module _ (ws : List ℕ) (n : ℕ) where
-  pub set_nowhere : Zeros ws (length ws) → FirstSet n (bit_of ws) n
-  set_nowhere zeros = record { within = omega arith; before = λ b l. zero_words ws zeros b; here = λ l. absurd (omega arith) }
+  pub set_nowhere : Zeros ws (length ws) → FirstSet n (bit_of ws) None
+  set_nowhere zeros b l = zero_words ws zeros b
 
   module _ (i t : ℕ) (zeros : Zeros ws i) (low : Lowest 64 (get_or ws i 0) t) where
     before_it : (b : ℕ) → b < 64 * i + t → bit_of ws b ≡ false
@@ -47,8 +48,15 @@ module _ (ws : List ℕ) (n : ℕ) where
           ap (λ x. bit (get_or ws x 0) (b % 64)) e ∙ low.before (b % 64) (omega (arith, low.within))
     ]
 
-    pub set_here : 64 * i + t < n → FirstSet n (bit_of ws) (64 * i + t)
-    set_here l = record { within = omega arith; before = before_it; here = λ _. bit_of_word ws i t low.within ∙ low.here }
+    set_here : 64 * i + t < n → FirstSet n (bit_of ws) (Some (64 * i + t))
+    set_here l = record { within = l; here = bit_of_word ws i t low.within ∙ low.here; before = before_it }
 
-    pub set_past : n ≤ 64 * i + t → FirstSet n (bit_of ws) n
-    set_past g = record { within = omega arith; before = λ b l. before_it b (omega arith); here = λ l. absurd (omega arith) }
+    set_past : n ≤ 64 * i + t → FirstSet n (bit_of ws) None
+    set_past g b l = before_it b (omega arith)
+
+    -- the bit that is found is there, if it is below n
+    pub set_found : FirstSet n (bit_of ws) (then_some (ltb (64 * i + t) n) (64 * i + t))
+    set_found = elim (cases_lt (64 * i + t) n) [
+      | inl l ↦ rw (lt-ltb (64 * i + t) n l) (set_here l)
+      | inr g ↦ rw (le-ltb (64 * i + t) n g) (set_past g)
+    ]

@@ -26,9 +26,7 @@ pub fn flip(row: &mut [u64], k: u16)
 pub fn zero(row: &mut [u64])
     ensures { (k : ℕ) → bit_of row.new k ≡ false }
 {
-    for word in row.iter_mut() {
-        *word = 0;
-    }
+    row.fill(0);
 }
 
 // Adds a row to another, bit by bit: a bit of `to` is turned over where `from` has it set.
@@ -65,16 +63,16 @@ pub fn parity_and(a: &[u64], b: &[u64]) -> bool
     sum.count_ones() % 2 == 1
 }
 
-// The first of the first `n` bits that the row has set, or `n`.
-pub fn first_set(row: &[u64], n: u16) -> u16
+// The first of the first `n` bits that the row has set.
+pub fn first_set(row: &[u64], n: u16) -> Option<u16>
     requires { length row.now ≤ 16 }
     ensures { FirstSet n (bit_of row.now) result }
 {
     for (i, word) in row.iter().enumerate() {
         if *word != 0 {
             let j = 64 * (i as u16) + word.trailing_zeros() as u16;
-            return if j < n { j } else { n };
+            return (j < n).then_some(j);
         }
     }
-    n
+    None
 }

@@ -1,7 +1,7 @@
 -- What a verdict says of the lamps. Assumes nothing.
-use Rattle.std.proofs.Common.{◌≡◌, ℕ, ◌*◌, ◌<◌, ◌≤◌, true, false, ◌&&◌, eqb, List, length, sym, ap, ◌∙◌, subst, ap₂, inl, inr, arith}
+use Rattle.std.proofs.Common.{◌≡◌, ℕ, ◌*◌, ◌<◌, ◌≤◌, true, false, ◌&&◌, not, eqb, Option, Some, None, is_some, List, length, sym, ap, ◌∙◌, subst, ap₂, inl, inr, arith}
 use mathlib.Core.Bool.{false≢true}
-use Rattle.std.proofs.lemmas.Bool.{cases_Bool, eq-eqb, ne_eqb, and_from, and_right}
+use Rattle.std.proofs.lemmas.Bool.{cases_Bool, eq-eqb, and_from, and_right}
 use Rattle.gf2.specs.Rows.{dot, act}
 use Rattle.gf2.proofs.Parity.{parity_cong, and_false}
 use Rattle.lamps.specs.Lamps.{Lamps, at, odd_of, all_off, Wire, changes, table, pressed, quiet}
@@ -9,31 +9,30 @@ use Rattle.lamps.proofs.Listed.{at_listed}
 use Rattle.lamps.proofs.Tables.{quiet_listed, odd_of_row}
 use Rattle.lamps.proofs.Wires.{changes_sym}
 use Rattle.bits.specs.Bits.{bit_of}
-use Rattle.bits.specs.Said.{FirstSet}
+use Rattle.bits.specs.Said.{First, FirstSet}
 use Rattle.bits.proofs.Counts.{parity_short}
 use Rattle.matrix.specs.Cells.{width_of, cell}
 use Rattle.wires.specs.Holds.{HoldsWires}
 use Rattle.lit.specs.Holds.{HoldsLit, lamps_of}
 use Rattle.lit.proofs.Holding.{held_lamps, held_past, first_off}
-use Rattle.claims.specs.Checked.{First, PressesChecked, odd_by, NeverChecked}
+use Rattle.claims.specs.Checked.{PressesChecked, odd_by, NeverChecked}
 use Rattle.claims.specs.declared.Verdict.TheVariants.{Right, Lamp, Even}
 
--- ---- presses: the row `after` holds what is lit after them, and r is its first bit
+-- ---- presses: the row `after` holds what is lit after them
 
 module _ (n : ℕ) (after : List ℕ) (ws : List Wire) (s p : Lamps) (long : length s ≡ n) (count : length p ≡ n)
-    (held : HoldsLit n after (pressed ws s p)) (r : ℕ) (first : FirstSet n (bit_of after) r) where
-  off : eqb r n ≡ all_off (pressed ws s p)
-  off = first_off n after r first ∙ ap all_off (held_lamps n after (pressed ws s p) held)
+    (held : HoldsLit n after (pressed ws s p)) where
+  off : (o : Option ℕ) → FirstSet n (bit_of after) o → not (is_some o) ≡ all_off (pressed ws s p)
+  off o first = first_off n after o first ∙ ap all_off (held_lamps n after (pressed ws s p) held)
 
-  pub presses_right : n ≤ r → PressesChecked ws s p Right
-  presses_right g =
-      let within = first.within in
-      and_from (eqb (length p) (length s)) (all_off (pressed ws s p)) (eq-eqb (length p) (length s) (count ∙ sym long)) (sym off ∙ eq-eqb r n (omega arith))
+  pub presses_right : FirstSet n (bit_of after) None → PressesChecked ws s p Right
+  presses_right none =
+      and_from (eqb (length p) (length s)) (all_off (pressed ws s p)) (eq-eqb (length p) (length s) (count ∙ sym long)) (sym (off None none))
 
-  pub presses_lamp : r < n → PressesChecked ws s p (Lamp r)
-  presses_lamp l = (
-    and_right (eqb (length p) (length s)) (all_off (pressed ws s p)) (sym off ∙ ne_eqb r n (omega arith)),
-    record { within = omega arith; here = sym (held.each r) ∙ first.here l; before = λ j b. sym (held.each j) ∙ first.before j b },
+  pub presses_lamp : (r : ℕ) → First n (bit_of after) r → PressesChecked ws s p (Lamp r)
+  presses_lamp r first = (
+    and_right (eqb (length p) (length s)) (all_off (pressed ws s p)) (sym (off (Some r) first)),
+    record { within = rw long first.within; here = sym (held.each r) ∙ first.here; before = λ j b. sym (held.each j) ∙ first.before j b },
   )
 
 -- ---- a set: a button changes an odd number of it if its row and the set have an odd number of bits in common

@@ -1,15 +1,10 @@
 -- When a claim is right, and which lamp is named where it is not. Assumes nothing: these are definitions.
-use Rattle.std.specs.Prelude.{◌≡◌, ℕ, ◌<◌, Bool, true, false, List, length}
-use Rattle.gf2.specs.Rows.{Row, dot}
+use Rattle.std.specs.Prelude.{◌≡◌, ℕ, Bool, true, false, List, length}
+use Rattle.gf2.specs.Rows.{dot}
 use Rattle.lamps.specs.Lamps.{Lamps, at, odd_of, Wire, changes, pressed, puts_out, quiet}
+use Rattle.bits.specs.Said.{First}
 use Rattle.claims.specs.declared.Verdict.{Verdict}
 use Rattle.claims.specs.declared.Verdict.TheVariants.{Right, Lamp, Even}
-
--- k is the first of the first n that passes the test
-pub record First (n : ℕ) (test : Row) (k : ℕ) : Type 0 where
-  pub within : k < n
-  pub here : test k ≡ true
-  pub before : (j : ℕ) → j < k → test j ≡ false
 
 -- the claim that the presses p put out s: right, or lamp k is the first that they leave lit
 abbrev pub PressesChecked : List Wire → Lamps → Lamps → Verdict → Type 0

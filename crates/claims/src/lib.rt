@@ -11,7 +11,7 @@ ghost use Rattle.claims.specs.Checked.{PressesChecked, NeverChecked};
 use wires::Board;
 
 // What a claim is found to be.
-#[derive(Clone, Copy)]
+#[derive(Clone, Copy, PartialEq, Eq, Debug)]
 pub enum Verdict {
     // it is right
     Right,
@@ -33,11 +33,9 @@ pub fn check_presses(board: Board, wires: &[u64], lit: &[u64], presses: &[u64]) 
     let after = &mut space[0..width];
     after.copy_from_slice(lit);
     lit::press_all(board, after, wires, presses);
-    let k = bits::first_set(after, board.lamps);
-    if k < board.lamps {
-        Verdict::Lamp(k)
-    } else {
-        Verdict::Right
+    match bits::first_set(after, board.lamps) {
+        Some(k) => Verdict::Lamp(k),
+        None => Verdict::Right,
     }
 }
 

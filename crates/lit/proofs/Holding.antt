@@ -1,8 +1,8 @@
 -- What is lit after a lamp is turned or buttons are pressed. Assumes nothing.
-use Rattle.std.proofs.Common.{◌≡◌, ℕ, suc, ◌+◌, ◌<◌, ◌≤◌, Bool, true, false, ◌&&◌, eqb, List, length, set, sym, refl, ap, ◌∙◌, ap₂, inl, inr, ⊎_elim, add-one, arith}
+use Rattle.std.proofs.Common.{◌≡◌, ℕ, suc, ◌+◌, ◌<◌, ◌≤◌, Bool, true, false, ◌&&◌, not, Option, Some, None, is_some, List, length, set, sym, refl, ap, ◌∙◌, ap₂, inl, inr, ⊎_elim, add-one, arith}
 use mathlib.Core.Bool.{false≢true}
 use Rattle.std.proofs.lemmas.List.{get_or_past}
-use Rattle.std.proofs.lemmas.Bool.{cases_lt, eq-eqb, ne_eqb, cases_Bool}
+use Rattle.std.proofs.lemmas.Bool.{cases_lt, cases_Bool}
 use Rattle.gf2.specs.Rows.{differ, dot, act}
 use Rattle.gf2.proofs.Parity.{parity_cong, parity_none, and_false}
 use Rattle.gf2.proofs.Rows.{and_comm, sum_off}
@@ -89,17 +89,9 @@ module _ (width : ℕ) (wires presses old new : List ℕ) (i : ℕ) (so_far : Pr
 
 -- ---- whether all is off
 
-pub first_off : (n : ℕ) (row : List ℕ) (r : ℕ) → FirstSet n (bit_of row) r → eqb r n ≡ all_off (lamps_of n row)
-first_off n row r first = elim (cases_lt r n) [
-  | inl l ↦ ne_eqb r n (omega arith) ∙ sym (lit l)
-  | inr g ↦ let within = first.within in eq-eqb r n (omega arith) ∙ sym (dark g)
-]
-  where
-    lit : r < n → all_off (lamps_of n row) ≡ false
-    lit l = elim (cases_Bool (all_off (lamps_of n row))) [
-      | inl off ↦ absurd (false≢true (sym (all_off_at (lamps_of n row) off r) ∙ at_listed n (bit_of row) r l ∙ first.here l))
-      | inr on ↦ on
-    ]
-
-    dark : n ≤ r → all_off (lamps_of n row) ≡ true
-    dark g = all_off_from (lamps_of n row) (λ k l. let h : k < n = rw length_listed at l in at_listed n (bit_of row) k h ∙ first.before k (omega arith))
+pub first_off : (n : ℕ) (row : List ℕ) (first : Option ℕ) → FirstSet n (bit_of row) first → not (is_some first) ≡ all_off (lamps_of n row)
+first_off n row (Some r) first = sym (elim (cases_Bool (all_off (lamps_of n row))) [
+  | inl off ↦ absurd (false≢true (sym (all_off_at (lamps_of n row) off r) ∙ at_listed n (bit_of row) r first.within ∙ first.here))
+  | inr on ↦ on
+])
+first_off n row None none = sym (all_off_from (lamps_of n row) (λ k l. let h : k < n = rw length_listed at l in at_listed n (bit_of row) k h ∙ none k h))

@@ -63,5 +63,5 @@ pub fn all_off(board: Board, lit: &[u64]) -> bool
     requires { length lit.now ≡ width_of board.lamps }
     ensures { result ≡ all_off (lamps_of board.lamps lit.now) }
 {
-    bits::first_set(lit, board.lamps) == board.lamps
+    bits::first_set(lit, board.lamps).is_none()
 }

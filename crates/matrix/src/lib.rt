@@ -5,8 +5,15 @@ ghost use Rattle.std.specs.Prelude.{◌≡◌, ◌+◌, ◌*◌, ◌/◌, ◌<�
 ghost use Rattle.gf2.specs.Rows.{nowhere, only, dot};
 ghost use Rattle.bits.specs.Bits.{bit_of};
 ghost use Rattle.bits.specs.Said.{FirstSet};
-ghost use Rattle.matrix.specs.Cells.{cell};
+ghost use Rattle.matrix.specs.Cells.{width_of, cell};
 ghost use Rattle.matrix.specs.Said.{RowPut, RowAdded, Flipped, Identity};
+
+// How many words a row of `n` bits has.
+pub fn width(n: u16) -> usize
+    ensures { result ≡ width_of n }
+{
+    (n as usize + 63) / 64
+}
 
 // Whether row `i` has bit `j` set.
 pub fn has(memory: &[u64], width: usize, i: usize, j: u16) -> bool
@@ -18,8 +25,8 @@ pub fn has(memory: &[u64], width: usize, i: usize, j: u16) -> bool
     bits::get(&memory[start..start + width], j)
 }
 
-// The first of the first `n` bits that row `i` has set, or `n`.
-pub fn first_bit(memory: &[u64], width: usize, n: u16, i: usize) -> u16
+// The first of the first `n` bits that row `i` has set.
+pub fn first_bit(memory: &[u64], width: usize, n: u16, i: usize) -> Option<u16>
     requires narrow { width ≤ 16 }
     requires fits { i * width + width ≤ length memory.now }
     ensures { FirstSet n (cell memory.now width i) result }
@@ -57,6 +64,7 @@ pub fn add_row(memory: &mut [u64], width: usize, i: usize, j: usize)
 {
     let to = i * width;
     let from = j * width;
+    // by place: both rows lie in one slice, and an iterator over one of them would keep the other from being read
     for k in 0..width {
         memory[to + k] ^= memory[from + k];
     }

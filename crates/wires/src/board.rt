@@ -3,7 +3,7 @@ ghost use Rattle.std.specs.Prelude.{◌≡◌, ◌+◌, ◌/◌, ◌<◌, ◌≤
 ghost use Rattle.matrix.specs.Cells.{width_of};
 
 // A board of 1 to 1,024 lamps.
-#[derive(Clone, Copy)]
+#[derive(Clone, Copy, PartialEq, Eq, Debug)]
 pub struct Board {
     pub lamps: u16,
     ghost some: { 0 < lamps },
@@ -26,6 +26,6 @@ impl Board {
     pub fn width(self) -> usize
         ensures { result ≡ width_of self.lamps }
     {
-        (self.lamps as usize + 63) / 64
+        matrix::width(self.lamps)
     }
 }

@@ -1,12 +1,7 @@
-use Rattle.std.proofs.Common.{◌<◌, ◌≢◌, length, arith, get_or-set_other, get_or-set_same, below_more}
+use Rattle.std.proofs.Common.{length, arith}
+use Rattle.std.proofs.lemmas.List.{get_or-replicate}
 use Rattle.bits.proofs.Rows.{zero_words}
 use Rattle.bits.proofs.zero.Goals as goal
 
-pub loop-word-preserved : goal.loop-word-preserved
-loop-word-preserved c =
-    below_more _ _
-    (λ k h. let ne : k ≢ c.loop-word.word-index = omega arith in rw get_or-set_other (c.loop-word.invariant k h))
-    (let lt : c.loop-word.word-index < length c.loop-word.row = omega arith in rw get_or-set_same)
-
 pub returns : goal.returns
-returns c = zero_words c.loop-word.row (λ k h. c.loop-word.invariant k (omega arith))
+returns c = zero_words c.fill.new.self (λ k h. rw (c.fill.ensures.after (λ y e. e)) (get_or-replicate (length c.args.row.now) k 0 0 (omega (arith, c.fill.ensures.len))))
