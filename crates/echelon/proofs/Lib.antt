@@ -3,3 +3,4 @@ pub mod Reduce
 pub mod Clear
 pub mod Joins
 pub mod Laws
+pub mod Places
