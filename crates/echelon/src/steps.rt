@@ -1,7 +1,7 @@
 // The steps of a system, in lent memory.
 ghost use Rattle.std.specs.Prelude.{◌≡◌, ℕ, ◌*◌, ◌/◌, ◌<◌, ◌≤◌, length, ◌≢◌};
 ghost use Rattle.bits.specs.Said.{FirstSet};
-ghost use Rattle.matrix.specs.Cells.{width_of, cell};
+ghost use Rattle.matrix.specs.Cells.{width_of, row_of, cell};
 ghost use Rattle.matrix.specs.Said.{RowAdded};
 
 // The `n` rows of a system in reduced steps: the rows, of which rows of the system each is the sum, and the column that each owns, or `n` where it is zero.
@@ -53,6 +53,14 @@ impl<'a> Steps<'a> {
         ensures { FirstSet self.now.n (cell self.now.rows.now (width_of self.now.n) i) result }
     {
         matrix::first_bit(self.rows, self.width(), self.n, i as usize)
+    }
+
+    // The rows of the system that row `i` is the sum of.
+    pub fn made_with(&self, i: u16) -> &[u64]
+        requires { i < self.now.n }
+        ensures { result.now ≡ row_of self.now.done.now (width_of self.now.n) i }
+    {
+        matrix::row(self.done, self.width(), i as usize)
     }
 
     // Adds row `from` to row `to`, in the rows and in what was done.

@@ -5,7 +5,7 @@ ghost use Rattle.std.specs.Prelude.{◌≡◌, ◌+◌, ◌*◌, ◌/◌, ◌<�
 ghost use Rattle.gf2.specs.Rows.{nowhere, only, dot};
 ghost use Rattle.bits.specs.Bits.{bit_of};
 ghost use Rattle.bits.specs.Said.{FirstSet};
-ghost use Rattle.matrix.specs.Cells.{width_of, cell};
+ghost use Rattle.matrix.specs.Cells.{width_of, row_of, cell};
 ghost use Rattle.matrix.specs.Said.{RowPut, RowAdded, Flipped, Identity};
 
 // How many words a row of `n` bits has.
@@ -15,14 +15,22 @@ pub fn width(n: u16) -> usize
     (n as usize + 63) / 64
 }
 
+// Row `i`.
+pub fn row(memory: &[u64], width: usize, i: usize) -> &[u64]
+    requires { i * width + width ≤ length memory.now }
+    ensures { result.now ≡ row_of memory.now width i }
+{
+    let start = i * width;
+    &memory[start..start + width]
+}
+
 // Whether row `i` has bit `j` set.
 pub fn has(memory: &[u64], width: usize, i: usize, j: u16) -> bool
     requires fits { i * width + width ≤ length memory.now }
     requires within { j / 64 < width }
     ensures { result ≡ cell memory.now width i j }
 {
-    let start = i * width;
-    bits::get(&memory[start..start + width], j)
+    bits::get(row(memory, width, i), j)
 }
 
 // The first of the first `n` bits that row `i` has set.
@@ -31,8 +39,7 @@ pub fn first_bit(memory: &[u64], width: usize, n: u16, i: usize) -> Option<u16>
     requires fits { i * width + width ≤ length memory.now }
     ensures { FirstSet n (cell memory.now width i) result }
 {
-    let start = i * width;
-    bits::first_set(&memory[start..start + width], n)
+    bits::first_set(row(memory, width, i), n)
 }
 
 // Whether row `i` and another row have an odd number of set bits in common.
@@ -41,8 +48,7 @@ pub fn dot_row(memory: &[u64], width: usize, i: usize, other: &[u64]) -> bool
     requires long { length other.now ≡ width }
     ensures { result ≡ dot (64 * width) (cell memory.now width i) (bit_of other.now) }
 {
-    let start = i * width;
-    bits::parity_and(&memory[start..start + width], other)
+    bits::parity_and(row(memory, width, i), other)
 }
 
 // Turns bit `j` of row `i` over.

@@ -1,60 +1,63 @@
-use Rattle.std.proofs.Common.{◌≡◌, ℕ, ◌+◌, ◌*◌, ◌/◌, true, false, List, length, sym, ap, ◌∙◌, subst, arith, rules}
-use Rattle.gf2.specs.Rows.{Row, act}
+use Rattle.std.proofs.Common.{◌≡◌, ℕ, ◌+◌, ◌*◌, true, false, List, length, sym, ap, ◌∙◌, subst, arith}
+use Rattle.gf2.specs.Rows.{Row, act, dot}
 use Rattle.bits.specs.Bits.{bit_of}
-use Rattle.matrix.proofs.Memory.{row_within, part_row}
-use Rattle.matrix.specs.Cells.{cell, Spare}
+use Rattle.matrix.proofs.Memory.{length_row}
+use Rattle.matrix.specs.Cells.{width_of, row_of, cell, Spare}
 use Rattle.echelon.specs.Steps.{column_of}
+use Rattle.echelon.proofs.Places.{done_row}
 use Rattle.solve.proofs.Placing.{Placing, placing_none, placing_even, placing_odd, way_found, never_found}
 use Rattle.solve.specs.Solved.{Within, Solved}
 use Rattle.solve.proofs.Boards.{solved_tells, lit_within}
 use Rattle.solve.proofs.solve.Goals as goal
-use Rattle.solve.proofs.solve.Goals.{then-dot_row+else-column-n, else-dot_row}
+use Rattle.solve.proofs.solve.Goals.{then-parity_and+else-column-steps, else-parity_and}
+
+-- whether an odd number of a row of what was done is in the set, by the row alone
+odd_row : (ts xs lit : List ℕ) (width i : ℕ) → xs ≡ row_of ts width i → length xs ≡ width
+    → dot (64 * length xs) (bit_of xs) (bit_of lit) ≡ act (64 * width) (cell ts width) (bit_of lit) i
+odd_row ts xs lit width i e long = ap (λ m. dot (64 * m) (bit_of xs) (bit_of lit)) long ∙ ap (λ ys. dot (64 * width) (bit_of ys) (bit_of lit)) e
 
 pub loop-i-init : goal.loop-i-init
 loop-i-init c = (placing_none _ _ _ _ c.zero.ensures, omega arith)
 
-pub dot_row-requires : goal.dot_row-requires
-dot_row-requires c =
-    let row = row_within ((c.args.n + 63) / 64) c.loop-i.i c.args.n c.loop-i-test.true in
-    record { fits = omega arith; long = c.requires.lit }
-
-pub slice_bounds-copy_from_slice-end : goal.slice_bounds-copy_from_slice-end
-slice_bounds-copy_from_slice-end c =
-    let row = row_within ((c.args.n + 63) / 64) c.loop-i.i c.args.n c.loop-i-test.true in search rules
-
-pub returns-then-column-n : goal.returns-then-column-n
-returns-then-column-n c =
-    let width = (c.args.n + 63) / 64 in
-    let done = cell c.args.done.now width in
-    let system : Within c.args.n (bit_of c.args.lit.now) → Spare c.args.n done
-    → Solved c.args.n done (column_of c.args.pivots.now) (bit_of c.args.lit.now) (bit_of c.copy_from_slice.new.self) false =
-    λ lit spare. never_found c.args.n (64 * width) done (column_of c.args.pivots.now) (bit_of c.args.lit.now) _ (omega arith) lit
-    c.loop-i.i c.loop-i-test.true c.if-column-n.true c.if-dot_row.ensures spare
-    (λ j. ap (λ ws. bit_of ws j) (c.copy_from_slice.ensures.after ∙ part_row c.args.done.now width c.loop-i.i)) in
-    record { system = system; board = λ ws s R e same spare tr pv. solved_tells _ ws R done _ tr pv s _ _ _ e same (system (lit_within _ s _ e same) spare) }
+pub returns-then-column-steps : goal.returns-then-column-steps
+returns-then-column-steps c =
+    let s = c.args.steps.now in
+    let width = width_of s.n in
+    let done = cell s.done.now width in
+    let odd = odd_row s.done.now _ c.args.lit.now width c.loop-i.i c.made_with-made.ensures
+    (ap length c.made_with-made.ensures ∙ length_row _ width _ (done_row s c.loop-i.i c.loop-i-test.true)) in
+    let system : Within s.n (bit_of c.args.lit.now) → Spare s.n done
+    → Solved s.n done (column_of s.pivots.now) (bit_of c.args.lit.now) (bit_of c.copy_from_slice.new.self) false =
+    λ lit spare. never_found s.n (64 * width) done (column_of s.pivots.now) (bit_of c.args.lit.now) _ (omega arith) lit
+    c.loop-i.i c.loop-i-test.true c.if-column-steps.true (c.if-parity_and.ensures ∙ odd) spare
+    (λ j. ap (λ ws. bit_of ws j) (c.copy_from_slice.ensures.after ∙ c.made_with-made.ensures)) in
+    record { system = system; board = λ ws t R e same spare tr pv. solved_tells _ ws R done _ tr pv t _ _ _ e same (system (lit_within _ t _ e same) spare) }
 
 pub loop-i-preserved : goal.loop-i-preserved
 loop-i-preserved c =
-    let n = c.args.n in
-    let width = (n + 63) / 64 in
+    let s = c.args.steps.now in
+    let width = width_of s.n in
     let Next : List ℕ → Type 0 = λ out.
-    Placing n (column_of c.args.pivots.now) (act (64 * width) (cell c.args.done.now width) (bit_of c.args.lit.now)) (bit_of out) (c.loop-i.i + 1)
+    Placing s.n (column_of s.pivots.now) (act (64 * width) (cell s.done.now width) (bit_of c.args.lit.now)) (bit_of out) (c.loop-i.i + 1)
     × (length out ≡ width) in
     let inv = c.loop-i.invariant in
-    elim c.if-dot_row.branch [
-      | then-dot_row+else-column-n w ↦ subst Next (sym w.out-is)
-          (placing_odd _ _ _ _ _ inv.0 _ w.if-dot_row.ensures w.if-column-n.false w.flip.ensures, w.flip.auto.row ∙ inv.1)
-      | else-dot_row w ↦ subst Next (sym w.out-is) (placing_even _ _ _ _ _ inv.0 w.if-dot_row.ensures, inv.1)
+    let odd = odd_row s.done.now _ c.args.lit.now width c.loop-i.i c.made_with-made.ensures
+    (ap length c.made_with-made.ensures ∙ length_row _ width _ (done_row s c.loop-i.i c.loop-i-test.true)) in
+    elim c.if-parity_and.branch [
+      | then-parity_and+else-column-steps w ↦ subst Next (sym w.out-is)
+          (placing_odd _ _ _ _ _ inv.0 _ (w.if-parity_and.ensures ∙ odd) w.if-column-steps.false w.flip.ensures, w.flip.auto.row ∙ inv.1)
+      | else-parity_and w ↦ subst Next (sym w.out-is) (placing_even _ _ _ _ _ inv.0 (w.if-parity_and.ensures ∙ odd), inv.1)
     ]
 
 pub returns : goal.returns
 returns c =
-    let width = (c.args.n + 63) / 64 in
-    let done = cell c.args.done.now width in
-    let all : c.loop-i.i ≡ c.args.n = omega arith in
+    let s = c.args.steps.now in
+    let width = width_of s.n in
+    let done = cell s.done.now width in
+    let all : c.loop-i.i ≡ s.n = omega arith in
     let odd : Row = act (64 * width) done (bit_of c.args.lit.now) in
-    let system : Within c.args.n (bit_of c.args.lit.now) → Spare c.args.n done
-    → Solved c.args.n done (column_of c.args.pivots.now) (bit_of c.args.lit.now) (bit_of c.loop-i.out) true =
-    λ lit spare. way_found c.args.n (64 * width) done (column_of c.args.pivots.now) (bit_of c.args.lit.now) _ (omega arith) lit
-    (subst (Placing c.args.n (column_of c.args.pivots.now) odd (bit_of c.loop-i.out)) all c.loop-i.invariant.0) in
-    record { system = system; board = λ ws s R e same spare tr pv. solved_tells _ ws R done _ tr pv s _ _ _ e same (system (lit_within _ s _ e same) spare) }
+    let system : Within s.n (bit_of c.args.lit.now) → Spare s.n done
+    → Solved s.n done (column_of s.pivots.now) (bit_of c.args.lit.now) (bit_of c.loop-i.out) true =
+    λ lit spare. way_found s.n (64 * width) done (column_of s.pivots.now) (bit_of c.args.lit.now) _ (omega arith) lit
+    (subst (Placing s.n (column_of s.pivots.now) odd (bit_of c.loop-i.out)) all c.loop-i.invariant.0) in
+    record { system = system; board = λ ws t R e same spare tr pv. solved_tells _ ws R done _ tr pv t _ _ _ e same (system (lit_within _ t _ e same) spare) }
