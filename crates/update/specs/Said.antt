@@ -1,17 +1,21 @@
 -- What the steps of a row's replacement do in memory: rs and ts are the rows and what was done before, rs' and ts' after. Assumes nothing: these are definitions.
-use Rattle.std.specs.Prelude.{◌≡◌, ℕ, ◌<◌, ◌≤◌, true, false, List}
+use Rattle.std.specs.Prelude.{◌≡◌, ℕ, ◌<◌, ◌≤◌, true, false, List, Option, Some, None}
 use Rattle.gf2.specs.Rows.{Row, Rows, Same}
 use Rattle.gf2.specs.Reduction.{Tracks, Pivots, PutsRow, Chosen, Freeing}
 use Rattle.bits.specs.Bits.{bit_of}
 use Rattle.matrix.specs.Cells.{cell, Spare}
 use Rattle.echelon.specs.Steps.{Kept}
 
--- k is the row to take for row l as far as the first i rows say, or n: a zero row, if one of them was made with row l
-pub record Taking (n width : ℕ) (ts : List ℕ) (c : ℕ → ℕ) (l i k : ℕ) : Type 0 where
-  pub within : k ≤ n
-  pub lit : k < n → cell ts width k l ≡ true
-  pub none : n ≤ k → (z : ℕ) → z < i → cell ts width z l ≡ false
+-- row k is taken for row l: it was made with it, and is a zero row, if one of the first i rows that were made with it is
+pub record Taken (n width : ℕ) (ts : List ℕ) (c : ℕ → ℕ) (l i k : ℕ) : Type 0 where
+  pub within : k < n
+  pub made : cell ts width k l ≡ true
   pub zero_row : (z : ℕ) → z < i → n ≤ c z → cell ts width z l ≡ true → n ≤ c k
+
+-- the row that is taken for row l, as far as the first i rows say; or none, where none of them was made with it
+abbrev pub Taking : ℕ → ℕ → List ℕ → (ℕ → ℕ) → ℕ → ℕ → Option ℕ → Type 0
+Taking n width ts c l i (Some k) = Taken n width ts c l i k
+Taking n width ts c l i None = (z : ℕ) → z < i → cell ts width z l ≡ false
 
 -- row k is added to those of the first m rows that were made with row l
 pub record Frees (n width : ℕ) (rs ts rs' ts' : List ℕ) (k l m : ℕ) : Type 0 where
