@@ -1,5 +1,5 @@
 -- How lent memory holds a board, and what a call does to both. Assumes nothing: these are definitions.
-use Rattle.std.specs.Prelude.{◌≡◌, ℕ, ◌<◌, Bool, true, false, List}
+use Rattle.std.specs.Prelude.{◌≡◌, ℕ, ◌<◌, Bool, true, false, List, Ok, Err, Result}
 use Rattle.gf2.specs.Rows.{Rows}
 use Rattle.gf2.specs.Reduction.{Tracks, Pivots}
 use Rattle.lamps.specs.Calls.{Board, Call, Answer, turned, after, IsRight}
@@ -9,6 +9,7 @@ use Rattle.wires.specs.Holds.{HoldsWires}
 use Rattle.lit.specs.Holds.{HoldsLit}
 use Rattle.echelon.specs.Steps.{column_of}
 use Rattle.update.specs.Said.{ButMarked}
+use Rattle.calls.specs.declared.Refusal.{Refusal}
 use Rattle.calls.specs.declared.Answer.{Answer as Reply}
 use Rattle.calls.specs.declared.Answer.TheVariants.{Refused, Number, Lit, Fewest, SomeWay, Never}
 
@@ -35,6 +36,11 @@ pub record Performs (m m' : Memory) (b : Board) (c : Call) (a : Answer) : Type 0
   pub answered : IsRight b c a
   pub holds : Holds m' (after b c)
   pub keeps : 0 < turned b c → m' ≡ m
+
+-- the answer with a number, or the refusal
+abbrev pub answer_of : Result ℕ Refusal → Reply
+answer_of (Ok k) = Number k
+answer_of (Err e) = Refused e
 
 -- is the answer a refusal
 abbrev pub refuses : Reply → Bool

@@ -1,0 +1,160 @@
+// The lent memory of a board that is open, and what each call does to it.
+ghost use Rattle.std.specs.Prelude.{◌≡◌, ℕ, ◌*◌, ◌<◌, ◌≤◌, true, false, List, [], length, OnErr};
+ghost use Rattle.matrix.specs.Cells.{width_of};
+ghost use Rattle.calls.specs.Saying.{lamps_of, meant, said};
+
+use crate::{lamp, mark, numbered, other};
+use calls::{Answer, Call, Refusal};
+use echelon::Steps;
+use wires::Board;
+
+// The wires of a board, steps of them but for the marked rows, and what is lit.
+#[derive(Drop)]
+pub struct Memory<'a, 's> {
+    pub wires: &'a mut [u64],
+    pub steps: Steps<'s>,
+    pub lit: &'a mut [u64],
+    pub marks: &'a mut [u64],
+    pub ghost some: { 0 < steps.n },
+    pub ghost wires_long: { length wires.now ≡ steps.n * width_of steps.n },
+    pub ghost lit_long: { length lit.now ≡ width_of steps.n },
+    pub ghost marks_long: { length marks.now ≡ width_of steps.n },
+}
+
+impl<'a, 's> Memory<'a, 's> {
+    ghost use Rattle.lamps.specs.Calls.{Board as Wall, number};
+    ghost use Rattle.desk.specs.Holding.{refuses, answer_of, Holds, Performs};
+    ghost use Rattle.desk.specs.Places.{held, InPlace};
+
+    // The board whose memory this is.
+    pub fn board(&self) -> Board
+        ensures { result.lamps ≡ self.now.steps.n }
+    {
+        Board {
+            lamps: self.steps.n,
+        }
+    }
+
+    // The wire between two lamps comes, or goes if it is there, and its two rows are marked. Answers the first lamp.
+    fn wire(&mut self, i: u16, j: u16) -> Result<u16, Refusal>
+        ensures performs { (b : Wall) → Holds (held self.old) b → Performs (held self.old) (held self.new) b (meant (Call.Wire i j)) (said (answer_of result) []) }
+        ensures kept { OnErr result (held self.new ≡ held self.old) }
+        ensures place { InPlace self.old self.new }
+    {
+        let board = self.board();
+        let Ok(one) = lamp(board, i) else {
+            return Err(Refusal::NoLamp);
+        };
+        let Ok(two) = lamp(board, j) else {
+            return Err(Refusal::NoLamp);
+        };
+        let Ok(far) = other(one, two) else {
+            return Err(Refusal::Itself);
+        };
+        wires::toggle(board, self.wires, one, far);
+        mark(self.marks, one);
+        mark(self.marks, far);
+        Ok(one)
+    }
+
+    // Turns a lamp on or off, and answers it.
+    fn turn(&mut self, i: u16) -> Result<u16, Refusal>
+        ensures performs { (b : Wall) → Holds (held self.old) b → Performs (held self.old) (held self.new) b (meant (Call.Turn i)) (said (answer_of result) []) }
+        ensures kept { OnErr result (held self.new ≡ held self.old) }
+        ensures place { InPlace self.old self.new }
+    {
+        let board = self.board();
+        let Ok(one) = lamp(board, i) else {
+            return Err(Refusal::NoLamp);
+        };
+        lit::turn(board, self.lit, one);
+        Ok(one)
+    }
+
+    // Presses a button, and answers it.
+    fn press(&mut self, i: u16) -> Result<u16, Refusal>
+        ensures performs { (b : Wall) → Holds (held self.old) b → Performs (held self.old) (held self.new) b (meant (Call.Press i)) (said (answer_of result) []) }
+        ensures kept { OnErr result (held self.new ≡ held self.old) }
+        ensures place { InPlace self.old self.new }
+    {
+        let board = self.board();
+        let Ok(one) = lamp(board, i) else {
+            return Err(Refusal::NoLamp);
+        };
+        let wires = &mut *self.wires;
+        lit::press(board, self.lit, wires, one);
+        Ok(one)
+    }
+
+    // Writes what is lit into `row`.
+    fn show(&mut self, row: &mut [u64]) -> Answer
+        requires { length row.old ≡ width_of self.old.steps.n }
+        ensures performs { (b : Wall) → Holds (held self.old) b → Performs (held self.old) (held self.new) b (meant Call.Lit) (said result row.new) }
+        ensures taken { (refuses result ≡ false) × (lamps_of result ≡ self.old.steps.n) }
+        ensures place { InPlace self.old self.new }
+    {
+        let lit = &mut *self.lit;
+        row.copy_from_slice(lit);
+        Answer::Lit(self.steps.n)
+    }
+
+    // Presses that put all out: the fewest, if there are at most 65,536 ways, or else some; or the lamps that show that there are none. They are written into `row`.
+    fn out(&mut self, row: &mut [u64]) -> Answer
+        requires { length row.old ≡ width_of self.old.steps.n }
+        ensures performs { (b : Wall) → Holds (held self.old) b → Performs (held self.old) (held self.new) b (meant Call.Out) (said result row.new) }
+        ensures taken { (refuses result ≡ false) × (lamps_of result ≡ self.old.steps.n) }
+        ensures place { InPlace self.old self.new }
+    {
+        let n = self.steps.n;
+        let wires = &mut *self.wires;
+        update::renew(wires, &mut self.steps, self.marks);
+        let lit = &mut *self.lit;
+        let steps = &mut self.steps;
+        if solve::solve(steps, lit, row) {
+            if fewest::fewest_way(steps, row) <= 16 {
+                Answer::Fewest(n)
+            } else {
+                Answer::SomeWay(n)
+            }
+        } else {
+            let _ = fewest::fewest_never(steps, lit, row);
+            Answer::Never(n)
+        }
+    }
+
+    // k + 1 if there are 2^k ways, or 0 if there is none.
+    fn ways(&mut self) -> u16
+        ensures performs { (b : Wall) → Holds (held self.old) b → Performs (held self.old) (held self.new) b (meant Call.Ways) (number result) }
+        ensures place { InPlace self.old self.new }
+    {
+        let mut space = [0; 16];
+        let width = self.steps.width();
+        let wires = &mut *self.wires;
+        update::renew(wires, &mut self.steps, self.marks);
+        let lit = &mut *self.lit;
+        let steps = &mut self.steps;
+        if solve::solve(steps, lit, &mut space[0..width]) {
+            solve::zero_rows(steps) + 1
+        } else {
+            0
+        }
+    }
+
+    // Performs a call. Lamps that are answered are written into `row`.
+    pub fn perform(&mut self, call: Call, row: &mut [u64]) -> Answer
+        requires { length row.old ≡ width_of self.old.steps.n }
+        ensures performs { (b : Wall) → Holds (held self.old) b → Performs (held self.old) (held self.new) b (meant call) (said result row.new) }
+        ensures kept { refuses result ≡ true → held self.new ≡ held self.old }
+        ensures lamps { lamps_of result ≤ self.old.steps.n }
+        ensures place { InPlace self.old self.new }
+    {
+        match call {
+            Call::Wire(i, j) => numbered(self.wire(i, j)),
+            Call::Turn(i) => numbered(self.turn(i)),
+            Call::Press(i) => numbered(self.press(i)),
+            Call::Lit => self.show(row),
+            Call::Out => self.out(row),
+            Call::Ways => Answer::Number(self.ways()),
+        }
+    }
+}
