@@ -1,5 +1,6 @@
 // The lent memory of a board that is open, and what each call does to it.
 ghost use Rattle.std.specs.Prelude.{◌≡◌, ℕ, ◌*◌, ◌<◌, ◌≤◌, true, false, List, [], length, OnErr};
+ghost use Rattle.bits.specs.Bits.{bit_of};
 ghost use Rattle.matrix.specs.Cells.{width_of};
 ghost use Rattle.calls.specs.Saying.{lamps_of, meant, said};
 
@@ -98,6 +99,16 @@ impl<'a, 's> Memory<'a, 's> {
         Answer::Lit(self.steps.n)
     }
 
+    // Makes the steps those of the wires, and clears the marks.
+    fn renew(&mut self)
+        ensures holds { (b : Wall) → Holds (held self.old) b → Holds (held self.new) b }
+        ensures cleared { (j : ℕ) → bit_of self.new.marks.now j ≡ false }
+        ensures place { InPlace self.old self.new }
+    {
+        let wires = &mut *self.wires;
+        update::renew(wires, &mut self.steps, self.marks);
+    }
+
     // Presses that put all out: the fewest, if there are at most 65,536 ways, or else some; or the lamps that show that there are none. They are written into `row`.
     fn out(&mut self, row: &mut [u64]) -> Answer
         requires { length row.old ≡ width_of self.old.steps.n }
@@ -105,9 +116,8 @@ impl<'a, 's> Memory<'a, 's> {
         ensures taken { (refuses result ≡ false) × (lamps_of result ≡ self.old.steps.n) }
         ensures place { InPlace self.old self.new }
     {
+        self.renew();
         let n = self.steps.n;
-        let wires = &mut *self.wires;
-        update::renew(wires, &mut self.steps, self.marks);
         let lit = &mut *self.lit;
         let steps = &mut self.steps;
         if solve::solve(steps, lit, row) {
@@ -127,10 +137,9 @@ impl<'a, 's> Memory<'a, 's> {
         ensures performs { (b : Wall) → Holds (held self.old) b → Performs (held self.old) (held self.new) b (meant Call.Ways) (number result) }
         ensures place { InPlace self.old self.new }
     {
+        self.renew();
         let mut space = [0; 16];
         let width = self.steps.width();
-        let wires = &mut *self.wires;
-        update::renew(wires, &mut self.steps, self.marks);
         let lit = &mut *self.lit;
         let steps = &mut self.steps;
         if solve::solve(steps, lit, &mut space[0..width]) {
