@@ -41,16 +41,6 @@ fn mark_pivots(steps: &Steps, columns: &mut [u64])
     }
 }
 
-// Copies what was done to make row `i`.
-fn copy_made(steps: &Steps, i: u16, row: &mut [u64])
-    requires made { i < steps.now.n }
-    requires row { length row.old ≡ width_of steps.now.n }
-    ensures { Copied (cell steps.now.done.now (width_of steps.now.n)) i (bit_of row.new) }
-{
-    let start = i as usize * steps.width();
-    row.copy_from_slice(&steps.done[start..start + steps.width()]);
-}
-
 // How many of the columns, or of the rows, count; a row for each of the first sixteen is written into `sets`, one after another.
 fn collect_by<C: Fn(u16) -> bool, W: Fn(u16, &mut [u64])>(
     steps: &Steps,
@@ -102,7 +92,7 @@ pub fn collect_zero(steps: &Steps, sets: &mut [u64]) -> u16
     collect_by(
         steps,
         |i| steps.pivots[i as usize] >= steps.n,
-        |i, row| copy_made(steps, i, row),
+        |i, row| row.copy_from_slice(steps.made_with(i)),
         sets,
     )
 }
