@@ -1,5 +1,7 @@
 -- The quiet set of a free column, row by row, and the sets one after the other. Assumes nothing.
-use Rattle.std.proofs.Common.{◌≡◌, ℕ, suc, ◌+◌, ◌<◌, ◌≤◌, Bool, true, false, ◌&&◌, eqb, ltb, ◌≢◌, List, sym, refl, ap, ◌∙◌, subst, ap₂, inl, inr, add-one, arith}
+use Rattle.std.proofs.Common.{◌≡◌, ℕ, suc, ◌+◌, ◌-◌, ◌*◌, ◌<◌, ◌≤◌, Bool, true, false, ◌&&◌, eqb, ltb, ◌≢◌, List, length, take, drop, sym, refl, ap, ◌∙◌, subst, ap₂, inl, inr, add-one, arith, length-take, length-drop}
+use denote.Ref.{MutBor}
+use borrow.Rule.Slice.PartMut.{put_mid}
 use mathlib.Core.Bool.{false≢true}
 use Rattle.std.proofs.lemmas.Bool.{cases_eq, cases_lt, eq-eqb, ne_eqb, lt-ltb, le-ltb}
 use Rattle.gf2.specs.Rows.{differ, Row, Rows, parity, only, tally}
@@ -9,8 +11,8 @@ use Rattle.gf2.proofs.Rows.{parity_alone}
 use Rattle.gf2.proofs.Pivots.{pivots_apart}
 use Rattle.bits.specs.Bits.{bit_of}
 use Rattle.matrix.specs.Cells.{cell}
-use Rattle.matrix.proofs.Memory.{other_rows}
-use Rattle.fewest.specs.Sets.{QuietSet, Collected, SetPut}
+use Rattle.matrix.proofs.Memory.{other_rows, row_written, row_around}
+use Rattle.fewest.specs.Sets.{QuietSet, Written, Collected, SetPut}
 use Rattle.fewest.proofs.Columns.{rank_on, rank_off, rank_below}
 
 -- does row i put bit j
@@ -82,6 +84,18 @@ module _ (n : ℕ) (R : Rows) (c : ℕ → ℕ) (f : ℕ) where
 
 -- ---- the sets, one after the other
 
+-- a row is lent, of w words, which are `width`
+pub lent_long : (width w k : ℕ) (sets : List ℕ) → w ≡ width → k * width + width ≤ length sets → length (take (k * w + w - k * w) (drop (k * w) sets)) ≡ width
+lent_long width w k sets e fits = subst (λ x. length (take (k * x + x - k * x) (drop (k * x) sets)) ≡ width) (sym e) (simp (length-take, length-drop) (omega arith))
+
+-- and it holds ys afterwards
+pub set_put : (P : ℕ → Row → Type 0) (f width w k : ℕ) (sets ys : List ℕ) → w ≡ width → k * width + width ≤ length sets → length ys ≡ width → P f (bit_of ys)
+    → SetPut P f width sets (put_mid (k * w) (k * w + w - k * w) sets ys) k
+set_put P f width w k sets ys e fits long p = subst (λ x. SetPut P f width sets (put_mid (k * x) (k * x + x - k * x) sets ys) k) (sym e) (record {
+  row = subst (λ ws. P f (bit_of ws)) (sym (row_written sets ys width k fits long)) p;
+  rest = row_around sets ys width k fits long;
+})
+
 module _ (g : ℕ → Bool) (P : ℕ → Row → Type 0) where
   none_below : (S : Rows) (k : ℕ) → k ≡ 0 → Collected g P 0 k S
   none_below S k e = record { many = e; sets = λ f l. absurd (omega arith) }
@@ -127,3 +141,15 @@ module _ (g : ℕ → Bool) (P : ℕ → Row → Type 0) where
 
     pub collected_off : g f ≡ false → Collected g P (f + 1) k S
     collected_off t = subst (λ m. Collected g P m k S) (sym (add-one f)) (off_step t)
+
+-- each row that counts is what the call for it left
+pub collected_by : (g : ℕ → Bool) (P : ℕ → Row → Type 0) (width : ℕ) (call : ℕ → MutBor (List ℕ) → MutBor (List ℕ) → Type 0) (n k : ℕ) (S : Rows)
+    → ((i : ℕ) (before after : MutBor (List ℕ)) → i < n → length before.now ≡ width → call i before after → P i (bit_of after.now))
+    → Collected g (Written width call) n k S → Collected g P n k S
+collected_by g P width call n k S said col = record {
+  many = col.many;
+  sets = λ i l on small. let w = col.sets i l on small in subst (P i) (sym w.left) (said i w.before w.after l w.long w.called);
+}
+
+pub collected_all : (g : ℕ → Bool) (P : ℕ → Row → Type 0) (m n k : ℕ) (S : Rows) → m ≡ n → Collected g P m k S → Collected g P n k S
+collected_all g P m n k S e col = subst (λ i. Collected g P i k S) e col

@@ -1,6 +1,7 @@
 -- The quiet sets of a system in reduced steps, and the least among the sums of some of them with a row. Assumes nothing: these are definitions.
-use Rattle.std.specs.Prelude.{◌≡◌, ℕ, zero, suc, ◌<◌, ◌≤◌, Bool, true, false, not, ◌&&◌, ◌||◌, ◌⊎◌, List, ◌==◌}
-use Rattle.gf2.specs.Rows.{differ, Row, Rows, Same, parity, tally, act}
+use Rattle.std.specs.Prelude.{◌≡◌, ℕ, zero, suc, ◌<◌, ◌≤◌, Bool, true, false, not, Option, None, Some, ◌&&◌, ◌||◌, ◌⊎◌, List, length, ◌==◌}
+use denote.Ref.{MutBor}
+use Rattle.gf2.specs.Rows.{differ, Row, Rows, Same, nowhere, parity, tally, act}
 use Rattle.gf2.specs.Reduction.{Tracks, Pivots, Free, Vector, Quiet}
 use Rattle.bits.specs.Bits.{bit_of}
 use Rattle.solve.specs.Solved.{Within, Shows, zero_row}
@@ -24,6 +25,14 @@ pub record QuietSet (n : ℕ) (R : Rows) (c : ℕ → ℕ) (f : ℕ) (v : Row) :
 -- v is row i of T
 pub record Copied (T : Rows) (i : ℕ) (v : Row) : Type 0 where
   pub same : (j : ℕ) → v j ≡ T i j
+
+-- v is what a call for i leaves of a row of `width` words
+pub record Written (width : ℕ) (call : ℕ → MutBor (List ℕ) → MutBor (List ℕ) → Type 0) (i : ℕ) (v : Row) : Type 0 where
+  pub before : MutBor (List ℕ)
+  pub after : MutBor (List ℕ)
+  pub long : length before.now ≡ width
+  pub called : call i before after
+  pub left : v ≡ bit_of after.now
 
 -- k of the first m pass the test g, and row b of S is what P says of the one that has b such before it, for b below 16
 pub record Collected (g : ℕ → Bool) (P : ℕ → Row → Type 0) (m k : ℕ) (S : Rows) : Type 0 where
@@ -55,6 +64,11 @@ OneChoice n k S = (d e : ℕ → Bool) → Same n (chosen k d S) (chosen k e S) 
 -- may q be taken: if there is a test, it has an odd number of bits below m in common with s
 abbrev pub accepts : ℕ → Bool → Row → Row → Bool
 accepts m test s q = not test || parity (λ j. q j && s j) m
+
+-- may q be taken, where it is to be odd against the bits of `against`, if there are any
+abbrev pub may_take : ℕ → Option (List ℕ) → Row → Bool
+may_take m None q = accepts m false nowhere q
+may_take m (Some against) q = accepts m true (bit_of against) q
 
 -- `new`, of `count` bits below m, is least among `old`, of `bound` bits, and those sums of p with some of the first k rows of S that are accepted
 pub record Least (m k : ℕ) (S : Rows) (ok : Row → Bool) (p old new : Row) (bound count : ℕ) : Type 0 where

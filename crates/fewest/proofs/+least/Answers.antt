@@ -1,48 +1,25 @@
 use Rattle.std.proofs.Common.{◌≡◌, ℕ, suc, ◌-◌, ◌*◌, ◌^◌, ◌<◌, Bool, get_or, sym, refl, ap, ◌∙◌, subst, arith, rules}
+use Rattle.std.specs.Option.{option_copied}
 use Rattle.gf2.specs.Rows.{Row, differ, tally}
 use Rattle.bits.specs.Bits.{bit_of}
 use Rattle.matrix.proofs.Memory.{part_row}
 use Rattle.bits.proofs.Rows.{same_rows}
 use Rattle.matrix.specs.Cells.{cell}
-use Rattle.fewest.specs.Sets.{Least, accepts}
-use Rattle.fewest.proofs.Sums.{least_here, least_kept, least_refused, least_more, turned, turned_back}
+use Rattle.fewest.specs.Sets.{Least, may_take}
+use Rattle.fewest.proofs.Sums.{least_here, least_more, turned, turned_back}
 use Rattle.fewest.proofs.+least.Goals as goal
 
 pub returns-then-accepted : goal.returns-then-accepted
 returns-then-accepted t c =
     let width = c.args.width in
     let now = c.args.current.now in
-    let ok : Row → Bool = accepts (64 * width) c.args.test (bit_of c.args.against.now) in
+    let ok : Row → Bool = may_take (64 * width) (option_copied c.args.against) in
     let counted : c.count-set.result ≡ tally (bit_of now) (64 * width) = c.count-set.ensures ∙ ap (λ w. tally (bit_of now) (64 * w)) c.requires.current in
     record {
       back = refl;
       least = subst (λ k. Least (64 * width) k (cell c.args.sets.now width) ok (bit_of now) (bit_of c.args.best.now) (bit_of c.copy_from_slice.new.self) c.args.best_count c.count-set.result) (sym c.if-k-eq0.true)
           (least_here _ _ _ _ _ _ _ _ counted (λ j. ap (λ ws. bit_of ws j) c.copy_from_slice.ensures.after) (omega arith)
-          (ap (λ w. accepts (64 * w) c.args.test (bit_of c.args.against.now) (bit_of now)) (sym c.requires.current) ∙ sym c.if-accepted.ensures));
-    }
-
-pub returns-else-accepted : goal.returns-else-accepted
-returns-else-accepted t c =
-    let width = c.args.width in
-    let now = c.args.current.now in
-    let ok : Row → Bool = accepts (64 * width) c.args.test (bit_of c.args.against.now) in
-    record {
-      back = refl;
-      least = subst (λ k. Least (64 * width) k (cell c.args.sets.now width) ok (bit_of now) (bit_of c.args.best.now) (bit_of c.args.best.now) c.args.best_count c.args.best_count) (sym c.if-k-eq0.true)
-          (least_refused _ _ _ _ _ _ c.requires.counted
-          (ap (λ w. accepts (64 * w) c.args.test (bit_of c.args.against.now) (bit_of now)) (sym c.requires.current) ∙ sym c.if-accepted.ensures));
-    }
-
-pub returns-else-set-best_count : goal.returns-else-set-best_count
-returns-else-set-best_count t c =
-    let width = c.args.width in
-    let now = c.args.current.now in
-    let ok : Row → Bool = accepts (64 * width) c.args.test (bit_of c.args.against.now) in
-    let counted : c.count-set.result ≡ tally (bit_of now) (64 * width) = c.count-set.ensures ∙ ap (λ w. tally (bit_of now) (64 * w)) c.requires.current in
-    record {
-      back = refl;
-      least = subst (λ k. Least (64 * width) k (cell c.args.sets.now width) ok (bit_of now) (bit_of c.args.best.now) (bit_of c.args.best.now) c.args.best_count c.args.best_count) (sym c.if-k-eq0.true)
-          (least_kept _ _ _ _ _ _ c.requires.counted c.count-set.result counted c.if-set-best_count.false);
+          (ap (λ w. may_take (64 * w) (option_copied c.args.against) (bit_of now)) (sym c.requires.current) ∙ sym c.if-accepted.ensures));
     }
 
 pub returns : goal.returns
@@ -57,6 +34,6 @@ returns t c =
     record {
       back = same_rows c.xor_into-2.new.to c.args.current.now (omega arith) (λ i. omega (arith, c.type_inv.current i)) fits (λ j _. turned_back _ (bit_of c.args.current.now j) (cell sets width (c.args.k - 1) j)
           (turned (c.xor_into-2.ensures j) (ap (λ ws. bit_of ws j) c.least-with.ensures.back) (ap (λ ws. bit_of ws j) part)) (add j));
-      least = subst (λ k. Least (64 * width) k (cell sets width) (accepts (64 * width) c.args.test (bit_of c.args.against.now)) (bit_of c.args.current.now) (bit_of c.args.best.now) (bit_of c.least-with.new.best) c.args.best_count c.least-with.result) one
+      least = subst (λ k. Least (64 * width) k (cell sets width) (may_take (64 * width) (option_copied c.args.against)) (bit_of c.args.current.now) (bit_of c.args.best.now) (bit_of c.least-with.new.best) c.args.best_count c.least-with.result) one
           (least_more _ _ _ _ _ _ _ _ _ _ _ _ add c.least-without.ensures.least c.least-with.ensures.least);
     }

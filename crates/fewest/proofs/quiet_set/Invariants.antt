@@ -1,9 +1,9 @@
-use Rattle.std.proofs.Common.{◌≡◌, ◌+◌, ◌/◌, length}
+use Rattle.std.proofs.Common.{◌≡◌, length}
 use Rattle.bits.specs.Bits.{bit_of}
-use Rattle.matrix.specs.Cells.{cell}
+use Rattle.matrix.specs.Cells.{width_of, cell}
 use Rattle.echelon.specs.Steps.{column_of}
 use Rattle.fewest.proofs.Building.{Building}
 use Rattle.fewest.proofs.quiet_set.Given as goal
 
 abbrev pub invariant-loop-i : goal.invariant-loop-i
-invariant-loop-i l = Building l.n (cell l.rows ((l.n + 63) / 64)) (column_of l.pivots) l.f (bit_of l.out) l.i × (length l.out ≡ (l.n + 63) / 64)
+invariant-loop-i l = Building l.steps.n (cell l.steps.rows.now (width_of l.steps.n)) (column_of l.steps.pivots.now) l.f (bit_of l.out) l.i × (length l.out ≡ width_of l.steps.n)
