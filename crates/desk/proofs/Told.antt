@@ -120,13 +120,12 @@ module _ (m₀ : Memory) (n : ℕ) (ws rs ts cs ls ms : List ℕ) (b : Board) (h
       ]
 
 -- made those of the wires, the steps are of the same board
-pub renewed_holds : (n n' : ℕ) (ws rs ts cs ls ms rs' ts' cs' ms' : List ℕ) (b : Board) → n' ≡ n → Refreshes n (width_of n) ws ms rs ts (column_of cs) rs' ts' (column_of cs')
-    → Holds (lent n ws rs ts cs ls ms) b → Holds (lent n' ws rs' ts' cs' ls ms') b
-renewed_holds n n' ws rs ts cs ls ms rs' ts' cs' ms' b e renewed h = subst (λ m. Holds (lent m ws rs' ts' cs' ls ms') b) (sym e) (record {
-  wires = h.wires;
-  lit = h.lit;
-  steps = record { system = cell ws (width_of n); but_marked = λ i l off j k. refl; tracks = steps.0; in_steps = steps.1; spare = renewed.spare_done h.steps.spare };
-})
-  where
-    steps : Tracks n (cell ws (width_of n)) (cell rs' (width_of n)) (cell ts' (width_of n)) × Pivots n (cell rs' (width_of n)) (column_of cs')
-    steps = renewed.steps h.steps.system h.steps.but_marked h.steps.tracks h.steps.in_steps
+pub renewed_holds : (n : ℕ) (ws rs ts cs ls ms rs' ts' cs' ms' : List ℕ) (b : Board) → Refreshes n (width_of n) ws ms rs ts (column_of cs) rs' ts' (column_of cs')
+    → Holds (lent n ws rs ts cs ls ms) b → Holds (lent n ws rs' ts' cs' ls ms') b
+renewed_holds n ws rs ts cs ls ms rs' ts' cs' ms' b renewed h =
+    let steps = renewed.steps h.steps.system h.steps.but_marked h.steps.tracks h.steps.in_steps in
+    record {
+      wires = h.wires;
+      lit = h.lit;
+      steps = record { system = cell ws (width_of n); but_marked = λ i l off j k. refl; tracks = steps.0; in_steps = steps.1; spare = renewed.spare_done h.steps.spare };
+    }

@@ -8,9 +8,8 @@ ghost use Rattle.desk.specs.Rewired.{TwoRowsChange};
 
 pub mod memory;
 
-pub use memory::Memory;
-
 use calls::{Answer, Refusal};
+pub use memory::Memory;
 use wires::Board;
 
 // The lamp, if it is there.
@@ -54,5 +53,4 @@ fn numbered(said: Result<u16, Refusal>) -> Answer
 // A wire that comes or goes changes two rows, and the steps are those of the new rows. It does nothing: its contract is a theorem.
 pub fn two_rows_change()
     ensures { TwoRowsChange }
-{
-}
+{}

@@ -11,29 +11,37 @@ use wires::Board;
 
 // The wires of a board, steps of them but for the marked rows, and what is lit.
 #[derive(Drop)]
-pub struct Memory<'a, 's> {
+pub struct Memory<'a> {
+    pub board: Board,
     pub wires: &'a mut [u64],
-    pub steps: Steps<'s>,
+    pub rows: &'a mut [u64],
+    pub done: &'a mut [u64],
+    pub pivots: &'a mut [u16],
     pub lit: &'a mut [u64],
     pub marks: &'a mut [u64],
-    pub ghost some: { 0 < steps.n },
-    pub ghost wires_long: { length wires.now ≡ steps.n * width_of steps.n },
-    pub ghost lit_long: { length lit.now ≡ width_of steps.n },
-    pub ghost marks_long: { length marks.now ≡ width_of steps.n },
+    pub ghost wires_long: { length wires.now ≡ board.lamps * width_of board.lamps },
+    pub ghost rows_long: { length rows.now ≡ board.lamps * width_of board.lamps },
+    pub ghost done_long: { length done.now ≡ board.lamps * width_of board.lamps },
+    pub ghost pivots_long: { length pivots.now ≡ board.lamps },
+    pub ghost lit_long: { length lit.now ≡ width_of board.lamps },
+    pub ghost marks_long: { length marks.now ≡ width_of board.lamps },
 }
 
-impl<'a, 's> Memory<'a, 's> {
+impl<'a> Memory<'a> {
     ghost use Rattle.lamps.specs.Calls.{Board as Wall, number};
+    ghost use Rattle.lamps.specs.Promise.{new_board};
     ghost use Rattle.desk.specs.Holding.{refuses, answer_of, Holds, Performs};
     ghost use Rattle.desk.specs.Places.{held, InPlace};
 
-    // The board whose memory this is.
-    pub fn board(&self) -> Board
-        ensures { result.lamps ≡ self.now.steps.n }
+    // Makes it a board without wires, with every lamp off.
+    pub fn clear(&mut self)
+        ensures holds { Holds (held self.new) (new_board self.old.board.lamps) }
+        ensures place { InPlace self.old self.new }
     {
-        Board {
-            lamps: self.steps.n,
-        }
+        let board = self.board;
+        wires::no_wires(board, self.wires);
+        lit::lights_out(board, self.lit);
+        update::start(self.rows, self.done, self.pivots, self.marks, board.lamps);
     }
 
     // The wire between two lamps comes, or goes if it is there, and its two rows are marked. Answers the first lamp.
@@ -42,7 +50,7 @@ impl<'a, 's> Memory<'a, 's> {
         ensures kept { OnErr result (held self.new ≡ held self.old) }
         ensures place { InPlace self.old self.new }
     {
-        let board = self.board();
+        let board = self.board;
         let Ok(one) = lamp(board, i) else {
             return Err(Refusal::NoLamp);
         };
@@ -64,7 +72,7 @@ impl<'a, 's> Memory<'a, 's> {
         ensures kept { OnErr result (held self.new ≡ held self.old) }
         ensures place { InPlace self.old self.new }
     {
-        let board = self.board();
+        let board = self.board;
         let Ok(one) = lamp(board, i) else {
             return Err(Refusal::NoLamp);
         };
@@ -78,7 +86,7 @@ impl<'a, 's> Memory<'a, 's> {
         ensures kept { OnErr result (held self.new ≡ held self.old) }
         ensures place { InPlace self.old self.new }
     {
-        let board = self.board();
+        let board = self.board;
         let Ok(one) = lamp(board, i) else {
             return Err(Refusal::NoLamp);
         };
@@ -89,14 +97,14 @@ impl<'a, 's> Memory<'a, 's> {
 
     // Writes what is lit into `row`.
     fn show(&mut self, row: &mut [u64]) -> Answer
-        requires { length row.old ≡ width_of self.old.steps.n }
+        requires { length row.old ≡ width_of self.old.board.lamps }
         ensures performs { (b : Wall) → Holds (held self.old) b → Performs (held self.old) (held self.new) b (meant Call.Lit) (said result row.new) }
-        ensures taken { (refuses result ≡ false) × (lamps_of result ≡ self.old.steps.n) }
+        ensures taken { (refuses result ≡ false) × (lamps_of result ≡ self.old.board.lamps) }
         ensures place { InPlace self.old self.new }
     {
         let lit = &mut *self.lit;
         row.copy_from_slice(lit);
-        Answer::Lit(self.steps.n)
+        Answer::Lit(self.board.lamps)
     }
 
     // Makes the steps those of the wires, and clears the marks.
@@ -106,28 +114,34 @@ impl<'a, 's> Memory<'a, 's> {
         ensures place { InPlace self.old self.new }
     {
         let wires = &mut *self.wires;
-        update::renew(wires, &mut self.steps, self.marks);
+        let n = self.board.lamps;
+        update::renew(wires, self.rows, self.done, self.pivots, self.marks, n);
     }
 
     // Presses that put all out: the fewest, if there are at most 65,536 ways, or else some; or the lamps that show that there are none. They are written into `row`.
     fn out(&mut self, row: &mut [u64]) -> Answer
-        requires { length row.old ≡ width_of self.old.steps.n }
+        requires { length row.old ≡ width_of self.old.board.lamps }
         ensures performs { (b : Wall) → Holds (held self.old) b → Performs (held self.old) (held self.new) b (meant Call.Out) (said result row.new) }
-        ensures taken { (refuses result ≡ false) × (lamps_of result ≡ self.old.steps.n) }
+        ensures taken { (refuses result ≡ false) × (lamps_of result ≡ self.old.board.lamps) }
         ensures place { InPlace self.old self.new }
     {
         self.renew();
-        let n = self.steps.n;
+        let n = self.board.lamps;
         let lit = &mut *self.lit;
-        let steps = &mut self.steps;
-        if solve::solve(steps, lit, row) {
-            if fewest::fewest_way(steps, row) <= 16 {
+        let steps = Steps {
+            n,
+            rows: self.rows,
+            done: self.done,
+            pivots: self.pivots,
+        };
+        if solve::solve(&steps, lit, row) {
+            if fewest::fewest_way(&steps, row) <= 16 {
                 Answer::Fewest(n)
             } else {
                 Answer::SomeWay(n)
             }
         } else {
-            let _ = fewest::fewest_never(steps, lit, row);
+            let _ = fewest::fewest_never(&steps, lit, row);
             Answer::Never(n)
         }
     }
@@ -139,11 +153,16 @@ impl<'a, 's> Memory<'a, 's> {
     {
         self.renew();
         let mut space = [0; 16];
-        let width = self.steps.width();
+        let width = self.board.width();
         let lit = &mut *self.lit;
-        let steps = &mut self.steps;
-        if solve::solve(steps, lit, &mut space[0..width]) {
-            solve::zero_rows(steps) + 1
+        let steps = Steps {
+            n: self.board.lamps,
+            rows: self.rows,
+            done: self.done,
+            pivots: self.pivots,
+        };
+        if solve::solve(&steps, lit, &mut space[0..width]) {
+            solve::zero_rows(&steps) + 1
         } else {
             0
         }
@@ -151,10 +170,10 @@ impl<'a, 's> Memory<'a, 's> {
 
     // Performs a call. Lamps that are answered are written into `row`.
     pub fn perform(&mut self, call: Call, row: &mut [u64]) -> Answer
-        requires { length row.old ≡ width_of self.old.steps.n }
+        requires { length row.old ≡ width_of self.old.board.lamps }
         ensures performs { (b : Wall) → Holds (held self.old) b → Performs (held self.old) (held self.new) b (meant call) (said result row.new) }
         ensures kept { refuses result ≡ true → held self.new ≡ held self.old }
-        ensures lamps { lamps_of result ≤ self.old.steps.n }
+        ensures lamps { lamps_of result ≤ self.old.board.lamps }
         ensures place { InPlace self.old self.new }
     {
         match call {

@@ -7,13 +7,16 @@ ghost use Rattle.lamps.specs.Calls.{Board as Wall};
 ghost use Rattle.lamps.specs.Promise.{new_board};
 ghost use Rattle.calls.specs.Saying.{lamps_of, called, said};
 ghost use Rattle.desk.specs.Holding.{lent, refuses, Holds, Performs};
+ghost use Rattle.desk.specs.Places.{held, InPlace};
 ghost use Rattle.session.specs.Lent.{table_words, Long, answer_bytes, Opened, Unopened, Answered, Called, Uncalled, StepsRight, InBudget};
 
 use calls::{Answer, Refusal};
+use desk::Memory;
+use echelon::Steps;
 use wires::Board;
 
 // How long the slices must be: in words each of the three tables and each of the two rows, in numbers the pivots, in bytes an answer.
-#[derive(Clone, Copy)]
+#[derive(Clone, Copy, PartialEq, Eq, Debug)]
 pub struct Sizes {
     pub table: usize,
     pub pivots: usize,
@@ -51,40 +54,27 @@ fn long(
     ensures enough { result ≡ true → Long (lent board.lamps wires.now rows.now done.now pivots.now lit.now marks.now) }
     ensures short { result ≡ false → Long (lent board.lamps wires.now rows.now done.now pivots.now lit.now marks.now) → ⊥ }
 {
-    let width = board.width();
-    let table = board.lamps as usize * width;
-    wires.len() >= table
-        && rows.len() >= table
-        && done.len() >= table
-        && pivots.len() >= board.lamps as usize
-        && lit.len() >= width
-        && marks.len() >= width
+    let sizes = asked(board);
+    wires.len() >= sizes.table
+        && rows.len() >= sizes.table
+        && done.len() >= sizes.table
+        && pivots.len() >= sizes.pivots
+        && lit.len() >= sizes.row
+        && marks.len() >= sizes.row
 }
 
 // Makes the memory a board without wires, with every lamp off.
-fn clear(
-    board: Board,
-    wires: &mut [u64],
-    rows: &mut [u64],
-    done: &mut [u64],
-    pivots: &mut [u16],
-    lit: &mut [u64],
-    marks: &mut [u64],
-)
-    requires wires { length wires.old ≡ table_words board.lamps }
-    requires rows { length rows.old ≡ table_words board.lamps }
-    requires done { length done.old ≡ table_words board.lamps }
-    requires pivots { length pivots.old ≡ board.lamps }
-    requires lit { length lit.old ≡ width_of board.lamps }
-    requires marks { length marks.old ≡ width_of board.lamps }
-    ensures { Holds (lent board.lamps wires.new rows.new done.new pivots.new lit.new marks.new) (new_board board.lamps) }
+fn clear(memory: &mut Memory)
+    ensures holds { Holds (held memory.new) (new_board memory.old.steps.n) }
+    ensures place { InPlace memory.old memory.new }
 {
-    wires::no_wires(board, wires);
-    lit::lights_out(board, lit);
-    update::start(rows, done, pivots, marks, board.lamps);
+    let board = memory.board();
+    wires::no_wires(board, memory.wires);
+    lit::lights_out(board, memory.lit);
+    update::start(&mut memory.steps, memory.marks);
 }
 
-// Opens a board of `lamps` lamps in the lent memory.
+// Opens a board of `lamps` lamps in the lent memory: six slices, as they come from other languages.
 pub fn open(
     lamps: u16,
     wires: &mut [u64],
@@ -104,73 +94,51 @@ pub fn open(
     if !long(board, wires, rows, done, pivots, lit, marks) {
         return Err(Refusal::ShortMemory);
     }
-    let width = board.width();
-    let table = lamps as usize * width;
-    clear(
-        board,
-        &mut wires[0..table],
-        &mut rows[0..table],
-        &mut done[0..table],
-        &mut pivots[0..lamps as usize],
-        &mut lit[0..width],
-        &mut marks[0..width],
-    );
+    let sizes = asked(board);
+    let (wires, _) = wires.split_at_mut(sizes.table);
+    let (rows, _) = rows.split_at_mut(sizes.table);
+    let (done, _) = done.split_at_mut(sizes.table);
+    let (pivots, _) = pivots.split_at_mut(sizes.pivots);
+    let (lit, _) = lit.split_at_mut(sizes.row);
+    let (marks, _) = marks.split_at_mut(sizes.row);
+    let n = board.lamps;
+    let mut memory = Memory {
+        wires,
+        steps: Steps {
+            n,
+            rows,
+            done,
+            pivots,
+        },
+        lit,
+        marks,
+    };
+    clear(&mut memory);
     Ok(board)
 }
 
 // Reads the bytes of a call and performs it. Lamps that are answered are written into `row`.
-fn perform(
-    board: Board,
-    wires: &mut [u64],
-    rows: &mut [u64],
-    done: &mut [u64],
-    pivots: &mut [u16],
-    lit: &mut [u64],
-    marks: &mut [u64],
-    bytes: &[u8],
-    row: &mut [u64],
-) -> Answer
-    requires wires { length wires.old ≡ table_words board.lamps }
-    requires rows { length rows.old ≡ table_words board.lamps }
-    requires done { length done.old ≡ table_words board.lamps }
-    requires pivots { length pivots.old ≡ board.lamps }
-    requires lit { length lit.old ≡ width_of board.lamps }
-    requires marks { length marks.old ≡ width_of board.lamps }
-    requires row { length row.old ≡ width_of board.lamps }
-    ensures performs { (b : Wall) → Holds (lent board.lamps wires.old rows.old done.old pivots.old lit.old marks.old) b → Performs (lent board.lamps wires.old rows.old done.old pivots.old lit.old marks.old) (lent board.lamps wires.new rows.new done.new pivots.new lit.new marks.new) b (called bytes.now) (said result row.new) }
-    ensures kept { refuses result ≡ true → lent board.lamps wires.new rows.new done.new pivots.new lit.new marks.new ≡ lent board.lamps wires.old rows.old done.old pivots.old lit.old marks.old }
-    ensures lamps { lamps_of result ≤ board.lamps }
+fn perform(memory: &mut Memory, bytes: &[u8], row: &mut [u64]) -> Answer
+    requires { length row.old ≡ width_of memory.old.steps.n }
+    ensures performs { (b : Wall) → Holds (held memory.old) b → Performs (held memory.old) (held memory.new) b (called bytes.now) (said result row.new) }
+    ensures kept { refuses result ≡ true → held memory.new ≡ held memory.old }
+    ensures lamps { lamps_of result ≤ memory.old.steps.n }
+    ensures place { InPlace memory.old memory.new }
 {
     match calls::read_call(bytes) {
-        Ok(call) => desk::perform(board, wires, rows, done, pivots, lit, marks, call, row),
+        Ok(call) => memory.perform(call, row),
         Err(refusal) => Answer::Refused(refusal),
     }
 }
 
 // Answers the bytes of a call by bytes, and says how many. Lamps that are answered go by `row`.
-fn reply(
-    board: Board,
-    wires: &mut [u64],
-    rows: &mut [u64],
-    done: &mut [u64],
-    pivots: &mut [u16],
-    lit: &mut [u64],
-    marks: &mut [u64],
-    bytes: &[u8],
-    row: &mut [u64],
-    answer: &mut [u8],
-) -> usize
-    requires wires { length wires.old ≡ table_words board.lamps }
-    requires rows { length rows.old ≡ table_words board.lamps }
-    requires done { length done.old ≡ table_words board.lamps }
-    requires pivots { length pivots.old ≡ board.lamps }
-    requires lit { length lit.old ≡ width_of board.lamps }
-    requires marks { length marks.old ≡ width_of board.lamps }
-    requires row { length row.old ≡ width_of board.lamps }
-    requires answer { answer_bytes board.lamps ≤ length answer.old }
-    ensures { Answered (lent board.lamps wires.old rows.old done.old pivots.old lit.old marks.old) (lent board.lamps wires.new rows.new done.new pivots.new lit.new marks.new) bytes.now answer.old answer.new result }
+fn reply(memory: &mut Memory, bytes: &[u8], row: &mut [u64], answer: &mut [u8]) -> usize
+    requires row { length row.old ≡ width_of memory.old.steps.n }
+    requires answer { answer_bytes memory.old.steps.n ≤ length answer.old }
+    ensures answered { Answered (held memory.old) (held memory.new) bytes.now answer.old answer.new result }
+    ensures place { InPlace memory.old memory.new }
 {
-    let said = perform(board, wires, rows, done, pivots, lit, marks, bytes, row);
+    let said = perform(memory, bytes, row);
     calls::write_answer(said, row, answer)
 }
 
@@ -190,38 +158,40 @@ pub fn call(
         (λ k. Called (lent board.lamps wires.old rows.old done.old pivots.old lit.old marks.old) (lent board.lamps wires.new rows.new done.new pivots.new lit.new marks.new) bytes.now answer.old answer.new k)
         (λ e. Uncalled (lent board.lamps wires.old rows.old done.old pivots.old lit.old marks.old) (lent board.lamps wires.new rows.new done.new pivots.new lit.new marks.new) answer.old answer.new e) }
 {
-    if !long(board, wires, rows, done, pivots, lit, marks)
-        || answer.len() < (board.lamps as usize + 7) / 8 + 16
-    {
+    let sizes = asked(board);
+    if !long(board, wires, rows, done, pivots, lit, marks) || answer.len() < sizes.answer {
         return Err(Refusal::ShortMemory);
     }
-    let width = board.width();
-    let table = board.lamps as usize * width;
+    let (wires, _) = wires.split_at_mut(sizes.table);
+    let (rows, _) = rows.split_at_mut(sizes.table);
+    let (done, _) = done.split_at_mut(sizes.table);
+    let (pivots, _) = pivots.split_at_mut(sizes.pivots);
+    let (lit, _) = lit.split_at_mut(sizes.row);
+    let (marks, _) = marks.split_at_mut(sizes.row);
+    let n = board.lamps;
+    let mut memory = Memory {
+        wires,
+        steps: Steps {
+            n,
+            rows,
+            done,
+            pivots,
+        },
+        lit,
+        marks,
+    };
     let mut space = [0; 16];
-    Ok(reply(
-        board,
-        &mut wires[0..table],
-        &mut rows[0..table],
-        &mut done[0..table],
-        &mut pivots[0..board.lamps as usize],
-        &mut lit[0..width],
-        &mut marks[0..width],
-        bytes,
-        &mut space[0..width],
-        answer,
-    ))
+    Ok(reply(&mut memory, bytes, &mut space[0..sizes.row], answer))
 }
 
 // The desk is right for every list of calls, and keeps its memory at a refusal.
-pub fn desk_is_right() -> u8
+pub fn desk_is_right()
     ensures { StepsRight }
 {
-    0
 }
 
 // The memory that is asked for is within its budget.
-pub fn memory_in_budget() -> u8
+pub fn memory_in_budget()
     ensures { InBudget }
 {
-    0
 }

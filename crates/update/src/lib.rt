@@ -90,6 +90,17 @@ pub fn refresh(wires: &[u64], steps: &mut Steps, marks: &mut [u64])
     bits::zero(marks);
 }
 
+// The steps of a system of zeros.
+fn zero_steps(steps: &mut Steps)
+    ensures steps { InSteps steps.old.n (λ _. nowhere) (cell steps.new.rows.now (width_of steps.old.n)) (cell steps.new.done.now (width_of steps.old.n)) (column_of steps.new.pivots.now) }
+    ensures place { InPlace steps.old steps.new }
+{
+    let width = steps.width();
+    bits::zero(steps.rows);
+    matrix::identity(steps.done, width, steps.n as usize);
+    steps.no_pivots();
+}
+
 // Sets each of the first `n` bits, and no other.
 fn set_first(row: &mut [u64], n: u16)
     requires { n ≤ 64 * length row.old }
@@ -102,17 +113,22 @@ fn set_first(row: &mut [u64], n: u16)
 }
 
 // The steps of a system of zeros, with every row marked.
-pub fn start(steps: &mut Steps, marks: &mut [u64])
-    requires marks { length marks.old ≡ width_of steps.old.n }
-    ensures steps { InSteps steps.old.n (λ _. nowhere) (cell steps.new.rows.now (width_of steps.old.n)) (cell steps.new.done.now (width_of steps.old.n)) (column_of steps.new.pivots.now) }
-    ensures place { InPlace steps.old steps.new }
-    ensures marked { Marked marks.new steps.old.n }
+pub fn start(rows: &mut [u64], done: &mut [u64], pivots: &mut [u16], marks: &mut [u64], n: u16)
+    requires small { n ≤ 1024 }
+    requires rows { length rows.old ≡ n * width_of n }
+    requires done { length done.old ≡ n * width_of n }
+    requires pivots { length pivots.old ≡ n }
+    requires marks { length marks.old ≡ width_of n }
+    ensures steps { InSteps n (λ _. nowhere) (cell rows.new (width_of n)) (cell done.new (width_of n)) (column_of pivots.new) }
+    ensures marked { Marked marks.new n }
 {
-    let width = steps.width();
-    bits::zero(steps.rows);
-    matrix::identity(steps.done, width, steps.n as usize);
-    steps.no_pivots();
-    set_first(marks, steps.n);
+    zero_steps(&mut Steps {
+        n,
+        rows,
+        done,
+        pivots,
+    });
+    set_first(marks, n);
 }
 
 // The steps of the wires, from nothing.
@@ -123,21 +139,38 @@ pub fn from_nothing(wires: &[u64], steps: &mut Steps, marks: &mut [u64])
     ensures place { InPlace steps.old steps.new }
     ensures cleared { (j : ℕ) → bit_of marks.new j ≡ false }
 {
-    start(steps, marks);
+    zero_steps(steps);
+    set_first(marks, steps.n);
     refresh(wires, steps, marks);
 }
 
 // The steps become those of the wires, and the marks are cleared: row by row if at most an eighth of the rows is marked, and else from nothing.
-pub fn renew(wires: &[u64], steps: &mut Steps, marks: &mut [u64])
-    requires wires { length wires.now ≡ steps.old.n * width_of steps.old.n }
-    requires marks { length marks.old ≡ width_of steps.old.n }
-    ensures steps { Refreshes steps.old.n (width_of steps.old.n) wires.now marks.old steps.old.rows.now steps.old.done.now (column_of steps.old.pivots.now) steps.new.rows.now steps.new.done.now (column_of steps.new.pivots.now) }
-    ensures place { InPlace steps.old steps.new }
+pub fn renew(
+    wires: &[u64],
+    rows: &mut [u64],
+    done: &mut [u64],
+    pivots: &mut [u16],
+    marks: &mut [u64],
+    n: u16,
+)
+    requires small { n ≤ 1024 }
+    requires wires { length wires.now ≡ n * width_of n }
+    requires rows { length rows.old ≡ n * width_of n }
+    requires done { length done.old ≡ n * width_of n }
+    requires pivots { length pivots.old ≡ n }
+    requires marks { length marks.old ≡ width_of n }
+    ensures steps { Refreshes n (width_of n) wires.now marks.old rows.old done.old (column_of pivots.old) rows.new done.new (column_of pivots.new) }
     ensures cleared { (j : ℕ) → bit_of marks.new j ≡ false }
 {
-    if bits::count(marks) > steps.n as u32 / 8 {
-        from_nothing(wires, steps, marks);
+    let mut steps = Steps {
+        n,
+        rows,
+        done,
+        pivots,
+    };
+    if bits::count(marks) > n as u32 / 8 {
+        from_nothing(wires, &mut steps, marks);
     } else {
-        refresh(wires, steps, marks);
+        refresh(wires, &mut steps, marks);
     }
 }

@@ -7,9 +7,9 @@ use Rattle.desk.proofs.memory.Memory.ways.Goals as goal
 
 pub overflow_add-result : goal.overflow_add-result
 overflow_add-result c =
-    let s = c.renew.new.self.steps in
-    let few = tally_le s.n (zero_row s.n (column_of s.pivots.now)) in
-    search (rules, few, c.zero_rows.ensures.rows, s.small)
+    let m = c.renew.new.self in
+    let few = tally_le m.board.lamps (zero_row m.board.lamps (column_of m.pivots.now)) in
+    search (rules, few, c.zero_rows.ensures.rows, m.board.small)
 
 pub returns-then-solve-clause-performs : goal.returns-then-solve-clause-performs
 returns-then-solve-clause-performs c b h =

@@ -3,7 +3,7 @@ use Rattle.bits.specs.Bits.{bit_of}
 use Rattle.matrix.specs.Cells.{width_of}
 use Rattle.matrix.specs.Said.{Identity}
 use Rattle.update.proofs.Zeros.{zeros_steps}
-use Rattle.update.proofs.start.Goals as goal
+use Rattle.update.proofs.zero_steps.Goals as goal
 
 pub returns-clause-steps : goal.returns-clause-steps
 returns-clause-steps c =
