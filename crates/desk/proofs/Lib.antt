@@ -2,3 +2,4 @@ pub mod Taken
 pub mod Changed
 pub mod Told
 pub mod Rewired
+pub mod Places

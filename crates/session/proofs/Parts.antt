@@ -19,8 +19,12 @@ pub record Part (size : ℕ) (old new whole : List ℕ) : Type 0 where
   pub asked : take size whole ≡ new
   pub rest : drop size whole ≡ drop size old
 
-pub part : (size d : ℕ) (old new : List ℕ) → d ≡ size → length new ≡ size → Part size old new (new ++ drop d old)
-part size d old new e long = record { asked = take_at new (drop d old) size long; rest = drop_at new (drop d old) size long ∙ ap (λ x. drop x old) e }
+pub part : (size d : ℕ) (old new front back : List ℕ) → front ≡ new → back ≡ drop d old → d ≡ size → length new ≡ size → Part size old new (front ++ back)
+part size d old new front back f b e long =
+    subst (λ x. Part size old new (x ++ back)) (sym f) (record {
+      asked = take_at new back size long;
+      rest = drop_at new back size long ∙ b ∙ ap (λ x. drop x old) e;
+    })
 
 pub lent_same : (n : ℕ) {ws ws' rs rs' ts ts' cs cs' ls ls' ms ms' : List ℕ} → ws ≡ ws' → rs ≡ rs' → ts ≡ ts' → cs ≡ cs' → ls ≡ ls' → ms ≡ ms'
     → lent n ws rs ts cs ls ms ≡ lent n ws' rs' ts' cs' ls' ms'
@@ -59,8 +63,8 @@ whole_same n ws rs ts cs ls ms ws' rs' ts' cs' ls' ms' p q = lent_same n
     joined : (size : ℕ) (xs ys : List ℕ) → take size ys ≡ take size xs → drop size ys ≡ drop size xs → ys ≡ xs
     joined size xs ys p q = sym (take-append-drop size ys) ∙ ap₂ (λ a b. a ++ b) p q ∙ take-append-drop size xs
 
-pub answered_as : {m n m' : Memory} {bytes old new : List ℕ} {k : ℕ} → m ≡ n → Answered m m' bytes old new k → Answered n m' bytes old new k
-answered_as {m} {n} {m'} {bytes} {old} {new} {k} = subst (λ x. Answered x m' bytes old new k)
+pub answered_as : {m n m' n' : Memory} {bytes old new : List ℕ} {k : ℕ} → m ≡ n → m' ≡ n' → Answered m m' bytes old new k → Answered n n' bytes old new k
+answered_as {m} {n} {m'} {n'} {bytes} {old} {new} {k} e e' h = subst (λ x. Answered n x bytes old new k) e' (subst (λ x. Answered x m' bytes old new k) e h)
 
 -- a call on the parts that are asked for is a call on the whole
 module _ (n : ℕ) (ws rs ts cs ls ms ws' rs' ts' cs' ls' ms' wsₑ rsₑ tsₑ csₑ lsₑ msₑ : List ℕ)

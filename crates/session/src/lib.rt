@@ -12,7 +12,6 @@ ghost use Rattle.session.specs.Lent.{table_words, Long, answer_bytes, Opened, Un
 
 use calls::{Answer, Refusal};
 use desk::Memory;
-use echelon::Steps;
 use wires::Board;
 
 // How long the slices must be: in words each of the three tables and each of the two rows, in numbers the pivots, in bytes an answer.
@@ -63,17 +62,6 @@ fn long(
         && marks.len() >= sizes.row
 }
 
-// Makes the memory a board without wires, with every lamp off.
-fn clear(memory: &mut Memory)
-    ensures holds { Holds (held memory.new) (new_board memory.old.steps.n) }
-    ensures place { InPlace memory.old memory.new }
-{
-    let board = memory.board();
-    wires::no_wires(board, memory.wires);
-    lit::lights_out(board, memory.lit);
-    update::start(&mut memory.steps, memory.marks);
-}
-
 // Opens a board of `lamps` lamps in the lent memory: six slices, as they come from other languages.
 pub fn open(
     lamps: u16,
@@ -101,28 +89,25 @@ pub fn open(
     let (pivots, _) = pivots.split_at_mut(sizes.pivots);
     let (lit, _) = lit.split_at_mut(sizes.row);
     let (marks, _) = marks.split_at_mut(sizes.row);
-    let n = board.lamps;
     let mut memory = Memory {
+        board,
         wires,
-        steps: Steps {
-            n,
-            rows,
-            done,
-            pivots,
-        },
+        rows,
+        done,
+        pivots,
         lit,
         marks,
     };
-    clear(&mut memory);
+    memory.clear();
     Ok(board)
 }
 
 // Reads the bytes of a call and performs it. Lamps that are answered are written into `row`.
 fn perform(memory: &mut Memory, bytes: &[u8], row: &mut [u64]) -> Answer
-    requires { length row.old ≡ width_of memory.old.steps.n }
+    requires { length row.old ≡ width_of memory.old.board.lamps }
     ensures performs { (b : Wall) → Holds (held memory.old) b → Performs (held memory.old) (held memory.new) b (called bytes.now) (said result row.new) }
     ensures kept { refuses result ≡ true → held memory.new ≡ held memory.old }
-    ensures lamps { lamps_of result ≤ memory.old.steps.n }
+    ensures lamps { lamps_of result ≤ memory.old.board.lamps }
     ensures place { InPlace memory.old memory.new }
 {
     match calls::read_call(bytes) {
@@ -133,8 +118,8 @@ fn perform(memory: &mut Memory, bytes: &[u8], row: &mut [u64]) -> Answer
 
 // Answers the bytes of a call by bytes, and says how many. Lamps that are answered go by `row`.
 fn reply(memory: &mut Memory, bytes: &[u8], row: &mut [u64], answer: &mut [u8]) -> usize
-    requires row { length row.old ≡ width_of memory.old.steps.n }
-    requires answer { answer_bytes memory.old.steps.n ≤ length answer.old }
+    requires row { length row.old ≡ width_of memory.old.board.lamps }
+    requires answer { answer_bytes memory.old.board.lamps ≤ length answer.old }
     ensures answered { Answered (held memory.old) (held memory.new) bytes.now answer.old answer.new result }
     ensures place { InPlace memory.old memory.new }
 {
@@ -168,15 +153,12 @@ pub fn call(
     let (pivots, _) = pivots.split_at_mut(sizes.pivots);
     let (lit, _) = lit.split_at_mut(sizes.row);
     let (marks, _) = marks.split_at_mut(sizes.row);
-    let n = board.lamps;
     let mut memory = Memory {
+        board,
         wires,
-        steps: Steps {
-            n,
-            rows,
-            done,
-            pivots,
-        },
+        rows,
+        done,
+        pivots,
         lit,
         marks,
     };
@@ -187,11 +169,9 @@ pub fn call(
 // The desk is right for every list of calls, and keeps its memory at a refusal.
 pub fn desk_is_right()
     ensures { StepsRight }
-{
-}
+{}
 
 // The memory that is asked for is within its budget.
 pub fn memory_in_budget()
     ensures { InBudget }
-{
-}
+{}
