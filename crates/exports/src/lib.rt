@@ -20,10 +20,7 @@ fn refused(refusal: Refusal) -> i64
 fn board_of(lamps: u64) -> Option<Board>
     ensures { elim result [ Some b ↦ (b.lamps ≡ lamps) | None ↦ NoBoard lamps ] }
 {
-    let Ok(small) = u16::try_from(lamps) else {
-        return None;
-    };
-    Board::new(small)
+    Board::new(u16::try_from(lamps).ok()?)
 }
 
 // How many words each of `wires`, `rows` and `done` must have at least.
@@ -34,8 +31,7 @@ pub extern "C" fn lights_words(lamps: u64) -> i64
     let Some(board) = board_of(lamps) else {
         return refused(Refusal::BadSize);
     };
-    let width = board.width();
-    (board.lamps as usize * width) as i64
+    session::asked(board).table as i64
 }
 
 // Opens a board of `lamps` lamps in the lent memory: no wires, every lamp off. Returns how many lamps it has.

@@ -10,6 +10,6 @@ returns c =
     let some = c.in-Some.board.some in
     let small = c.in-Some.board.small in
     let same : n ≡ c.args.lamps = c.in-Some.ensures in
-    let width : c.width-width.result ≡ width_of n = c.width-width.ensures in
-    let fits : n * c.width-width.result < 2 ^ 63 = search rules in
-    inl ((omega arith, omega arith), to_z_pos w64 (n * c.width-width.result) fits ∙ ap (λ w. pos (n * w)) width ∙ ap (λ x. pos (table_words x)) same)
+    let table = c.asked.ensures.tables in
+    let fits : n * width_of n < 2 ^ 63 = search rules in
+    inl ((omega arith, omega arith), to_z_pos w64 c.asked.result.table (omega (arith, table, fits)) ∙ ap pos (table ∙ ap table_words same))
