@@ -1,12 +1,13 @@
 -- The least among the sums of a row with some of k others. Assumes nothing.
-use Rattle.std.proofs.Common.{◌≡◌, ℕ, suc, ◌≤◌, Bool, true, false, ◌&&◌, eqb, ◌⊎◌, sym, refl, ap, ◌∙◌, ap₂, inl, inr, arith}
+use Rattle.std.proofs.Common.{◌≡◌, ℕ, suc, ◌*◌, ◌≤◌, Bool, true, false, ◌&&◌, eqb, ◌⊎◌, Option, List, sym, refl, ap, ◌∙◌, subst, ap₂, inl, inr, arith}
 use mathlib.Core.Path.{fun_ext}
 use mathlib.Core.Bool.{false≢true}
 use Rattle.std.proofs.lemmas.Bool.{eq-eqb, ne_eqb, cases_Bool}
 use Rattle.gf2.specs.Rows.{pick, differ, Row, Rows, parity, tally}
 use Rattle.gf2.proofs.Parity.{parity_cong, differ_false}
 use Rattle.gf2.proofs.Tally.{tally_cong}
-use Rattle.fewest.specs.Sets.{sum_of, Least}
+use Rattle.matrix.specs.Cells.{cell}
+use Rattle.fewest.specs.Sets.{sum_of, may_take, Least}
 
 -- a choice for one more
 abbrev pub choose : (ℕ → Bool) → ℕ → Bool → ℕ → Bool
@@ -95,3 +96,8 @@ module _ (m : ℕ) (S : Rows) (ok : Row → Bool) (p : Row) where
       least = λ e u. every e u (cases_Bool (e k));
       one_of = some b.one_of a.one_of;
     }
+
+-- least among rows of w words, which are `width`
+pub least_at : (w width k : ℕ) (xs : List ℕ) (against : Option (List ℕ)) (p old new : Row) (bound count : ℕ) → w ≡ width
+    → Least (64 * w) k (cell xs w) (may_take (64 * w) against) p old new bound count → Least (64 * width) k (cell xs width) (may_take (64 * width) against) p old new bound count
+least_at w width k xs against p old new bound count e l = subst (λ x. Least (64 * x) k (cell xs x) (may_take (64 * x) against) p old new bound count) e l

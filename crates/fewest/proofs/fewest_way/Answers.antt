@@ -4,7 +4,8 @@ use Rattle.matrix.specs.Cells.{width_of, cell}
 use Rattle.echelon.specs.Steps.{column_of}
 use Rattle.fewest.specs.Sets.{free, Spans}
 use Rattle.fewest.proofs.Columns.{free_marks}
-use Rattle.fewest.proofs.Solutions.{least_at, way_fewest}
+use Rattle.fewest.proofs.Sums.{least_at}
+use Rattle.fewest.proofs.Solutions.{way_fewest}
 use Rattle.fewest.proofs.fewest_way.Goals as goal
 
 pub returns-then-k-le16 : goal.returns-then-k-le16
