@@ -1,7 +1,6 @@
 -- The least among the sums of a row with some of k others. Assumes nothing.
 use Rattle.std.proofs.Common.{◌≡◌, ℕ, suc, ◌*◌, ◌≤◌, Bool, true, false, ◌&&◌, eqb, ◌⊎◌, Option, List, sym, refl, ap, ◌∙◌, subst, ap₂, inl, inr, arith}
 use mathlib.Core.Path.{fun_ext}
-use mathlib.Core.Bool.{false≢true}
 use Rattle.std.proofs.lemmas.Bool.{eq-eqb, ne_eqb, cases_Bool}
 use Rattle.gf2.specs.Rows.{pick, differ, Row, Rows, parity, tally}
 use Rattle.gf2.proofs.Parity.{parity_cong, differ_false}
@@ -48,23 +47,6 @@ module _ (m : ℕ) (S : Rows) (ok : Row → Bool) (p : Row) where
     least = λ c _. omega (arith, e ∙ sym (tally_cong (sum_of 0 c S p) p m (λ j _. none_added c j)));
     one_of = inr (λ _. false, λ j. same j ∙ sym (none_added (λ _. false) j), moved new p same t);
   }
-
-  module _ (old : Row) (bound : ℕ) (counted : bound ≡ tally old m) where
-    pub least_kept : (count : ℕ) → count ≡ tally p m → bound ≤ count → Least m 0 S ok p old old bound bound
-    least_kept count e l = record {
-      counted = counted;
-      below = omega arith;
-      least = λ c _. omega (arith, e ∙ sym (tally_cong (sum_of 0 c S p) p m (λ j _. none_added c j)));
-      one_of = inl (λ j. refl);
-    }
-
-    pub least_refused : ok p ≡ false → Least m 0 S ok p old old bound bound
-    least_refused f = record {
-      counted = counted;
-      below = omega arith;
-      least = λ c t. absurd (false≢true (sym f ∙ moved p (sum_of 0 c S p) (λ j. sym (none_added c j)) t));
-      one_of = inl (λ j. refl);
-    }
 
   -- one set more: p₁ is p with row k added
   module _ (k : ℕ) (p₁ old mid new : Row) (bound c₁ c₂ : ℕ) (add : (j : ℕ) → p₁ j ≡ differ (p j) (S k j))

@@ -14,7 +14,7 @@ returns-then-accepted t c =
     let S = cell c.args.sets.now (length c.args.current.now) in
     record {
       back = refl;
-      least = subst (λ k. Least m k S (may_take m (option_copied c.args.against)) (bit_of c.args.current.now) (bit_of c.args.best.now) (bit_of c.copy_from_slice.new.self) c.args.best_count c.count-count.result) (sym c.if-k-eq0.true)
+      least = subst (λ k. Least m k S (may_take m (option_copied c.args.against.now)) (bit_of c.args.current.now) (bit_of c.args.best.now) (bit_of c.copy_from_slice.new.self) c.args.best_count c.count-count.result) (sym c.if-k-eq0.true)
           (least_here _ _ _ _ _ _ _ _ c.count-count.ensures (λ j. ap (λ ws. bit_of ws j) c.copy_from_slice.ensures.after) (omega arith) (sym c.if-accepted.ensures));
     }
 
@@ -30,6 +30,6 @@ returns t c =
     record {
       back = same_rows c.xor_into-2.new.to c.args.current.now (omega arith) (λ i. omega (arith, c.type_inv.current i)) fits (λ j _. turned_back _ (bit_of c.args.current.now j) (cell sets width (c.args.k - 1) j)
           (turned (c.xor_into-2.ensures j) (ap (λ ws. bit_of ws j) c.least-with.ensures.back) (row j)) (add j));
-      least = subst (λ k. Least (64 * width) k (cell sets width) (may_take (64 * width) (option_copied c.args.against)) (bit_of c.args.current.now) (bit_of c.args.best.now) (bit_of c.least-with.new.best) c.args.best_count c.least-with.result) one
-          (least_more _ _ _ _ _ _ _ _ _ _ _ _ add c.least-without.ensures.least (least_at _ _ _ _ (option_copied c.args.against) _ _ _ _ _ (omega arith) c.least-with.ensures.least));
+      least = subst (λ k. Least (64 * width) k (cell sets width) (may_take (64 * width) (option_copied c.args.against.now)) (bit_of c.args.current.now) (bit_of c.args.best.now) (bit_of c.least-with.new.best) c.args.best_count c.least-with.result) one
+          (least_more _ _ _ _ _ _ _ _ _ _ _ _ add c.least-without.ensures.least (least_at _ _ _ _ (option_copied c.args.against.now) _ _ _ _ _ (omega arith) c.least-with.ensures.least));
     }
