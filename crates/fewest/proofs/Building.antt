@@ -1,6 +1,6 @@
 -- The quiet set of a free column, row by row, and the sets one after the other. Assumes nothing.
 use Rattle.std.proofs.Common.{◌≡◌, ℕ, suc, ◌+◌, ◌-◌, ◌*◌, ◌<◌, ◌≤◌, Bool, true, false, ◌&&◌, eqb, ltb, ◌≢◌, List, length, take, drop, sym, refl, ap, ◌∙◌, subst, ap₂, inl, inr, add-one, arith, length-take, length-drop}
-use denote.Ref.{MutBor}
+use Rattle.std.specs.Borrow.{MutBor}
 use borrow.Rule.Slice.PartMut.{put_mid}
 use mathlib.Core.Bool.{false≢true}
 use Rattle.std.proofs.lemmas.Bool.{cases_eq, cases_lt, eq-eqb, ne_eqb, lt-ltb, le-ltb}
