@@ -4,7 +4,8 @@ use mathlib.Core.Bool.{false≢true}
 use Rattle.gf2.proofs.Parity.{differ_false}
 use Rattle.std.proofs.lemmas.Bool.{cases_Bool, cases_eq, eq-eqb, ne_eqb}
 use Rattle.gf2.specs.Rows.{differ, Row, Rows, parity, tally, one}
-use Rattle.gf2.specs.Reduction.{Free, Marks}
+use Rattle.gf2.specs.Reduction.{Pivots, Free, Marks}
+use Rattle.echelon.specs.Laws.{ZeroRows}
 use Rattle.fewest.specs.Sets.{taken, free}
 use Rattle.fewest.proofs.Sums.{choose, parity_choose}
 
@@ -60,6 +61,10 @@ free_marks n c = record {
 
 pub free_is : (n : ℕ) (c : ℕ → ℕ) (j : ℕ) → free n c j ≡ true → Free n c j
 free_is n c j t i l e = false≢true (sym (ap (λ b. not b) (taken_here n c j i l e)) ∙ t)
+
+-- as many columns are free as rows have no pivot
+pub free_many : (n k : ℕ) (c : ℕ → ℕ) (R : Rows) → ZeroRows n c k → Pivots n R c → k ≡ tally (free n c) n
+free_many n k c R zeros pv = zeros.free R (free n c) pv (free_marks n c)
 
 module _ (g : ℕ → Bool) where
   rank_zero : tally g 0 ≡ 0
