@@ -1,6 +1,7 @@
 -- With rows that span what is quiet, the least among the sums with a solution is least among all solutions. Assumes nothing.
 use Rattle.std.proofs.Common.{◌≡◌, ℕ, zero, suc, ◌+◌, ◌-◌, ◌<◌, ◌≤◌, Bool, true, false, ◌&&◌, ◌≢◌, ◌⊎◌, sym, refl, ap, ◌∙◌, subst, ap₂, inl, inr, arith}
 use mathlib.Core.Path.{fun_ext}
+use Rattle.std.proofs.Math.Bool.{and-true}
 use Rattle.std.proofs.lemmas.Bool.{cases_Bool, eq-eqb, ne_eqb, leb-true, leb-false}
 use Rattle.gf2.specs.Rows.{differ, Row, Rows, Same, parity, sum, nowhere, dot, act, tally, one}
 use Rattle.gf2.specs.Reduction.{Tracks, Pivots, Quiet}
@@ -109,11 +110,8 @@ module _ (n : ℕ) (R : Rows) (c : ℕ → ℕ) (k : ℕ) (S : Rows) (col : Coll
         let w = column b l in
         parity_alone (λ a. d a && S a w.0) k b l (λ a m ne. ap (λ x. d a && x) (off a m ne) ∙ and_false (d a))
         ∙ ap (λ x. d b && x) ((w.4.vector pv (free_is n c w.0 w.2)).free w.0 w.1 (free_is n c w.0 w.2) ∙ eq-eqb w.0 w.0 refl)
-        ∙ and_true (d b)
+        ∙ and-true (d b)
       where
-        and_true : (a : Bool) → (a && true) ≡ a
-        and_true a = grind arith
-
         off : (a : ℕ) (m : a < k) → a ≢ b → S a (column b l).0 ≡ false
         off a m ne =
             let w = column b l in

@@ -3,7 +3,7 @@ use Rattle.std.proofs.Common.{◌≡◌, ℕ, suc, ◌*◌, ◌≤◌, Bool, tru
 use mathlib.Core.Path.{fun_ext}
 use Rattle.std.proofs.lemmas.Bool.{eq-eqb, ne_eqb, cases_Bool}
 use Rattle.gf2.specs.Rows.{pick, differ, Row, Rows, parity, tally}
-use Rattle.gf2.proofs.Parity.{parity_cong, differ_false}
+use Rattle.gf2.proofs.Parity.{parity_cong, differ_false, differ_assoc}
 use Rattle.gf2.proofs.Tally.{tally_cong}
 use Rattle.matrix.specs.Cells.{cell}
 use Rattle.fewest.specs.Sets.{sum_of, may_take, Least}
@@ -17,9 +17,6 @@ pub parity_choose : (e : ℕ → Bool) (S : Rows) (k : ℕ) (x : Bool) (j : ℕ)
 parity_choose e S k x j = ap₂ (λ a b. differ a b)
     (ap (λ t. pick t x (e k) && S k j) (eq-eqb k k refl))
     (parity_cong (λ b. choose e k x b && S b j) (λ b. e b && S b j) k (λ b l. ap (λ t. pick t x (e b) && S b j) (ne_eqb b k (omega arith))))
-
-differ_in : (a b c : Bool) → differ a (differ b c) ≡ differ (differ a b) c
-differ_in a b c = grind arith
 
 -- x is turned over where s is, and back again
 pub turned : {x y z s t : Bool} → x ≡ differ y s → y ≡ z → s ≡ t → x ≡ differ z t
@@ -52,7 +49,7 @@ module _ (m : ℕ) (S : Rows) (ok : Row → Bool) (p : Row) where
   module _ (k : ℕ) (p₁ old mid new : Row) (bound c₁ c₂ : ℕ) (add : (j : ℕ) → p₁ j ≡ differ (p j) (S k j))
       (a : Least m k S ok p old mid bound c₁) (b : Least m k S ok p₁ mid new c₁ c₂) where
     with_it : (e : ℕ → Bool) (j : ℕ) → sum_of k e S p₁ j ≡ differ (p j) (differ (S k j) (parity (λ b. e b && S b j) k))
-    with_it e j = ap (λ x. differ x (parity (λ b. e b && S b j) k)) (add j) ∙ sym (differ_in (p j) (S k j) (parity (λ b. e b && S b j) k))
+    with_it e j = ap (λ x. differ x (parity (λ b. e b && S b j) k)) (add j) ∙ differ_assoc (p j) (S k j) (parity (λ b. e b && S b j) k)
 
     every : (e : ℕ → Bool) → ok (sum_of (suc k) e S p) ≡ true → (e k ≡ true) ⊎ (e k ≡ false) → c₂ ≤ tally (sum_of (suc k) e S p) m
     every e u (inl t) =
