@@ -1,8 +1,9 @@
 -- The quiet set of a free column, row by row, and the sets one after the other. Assumes nothing.
 use Rattle.std.proofs.Common.{◌≡◌, ℕ, suc, ◌+◌, ◌-◌, ◌*◌, ◌<◌, ◌≤◌, Bool, true, false, ◌&&◌, eqb, ltb, ◌≢◌, List, length, take, drop, sym, refl, ap, ◌∙◌, subst, ap₂, inl, inr, add-one, arith, length-take, length-drop}
-use denote.Ref.{MutBor}
+use Rattle.std.specs.Borrow.{MutBor}
 use borrow.Rule.Slice.PartMut.{put_mid}
 use mathlib.Core.Bool.{false≢true}
+use Rattle.std.proofs.Math.Bool.{and-true}
 use Rattle.std.proofs.lemmas.Bool.{cases_eq, cases_lt, eq-eqb, ne_eqb, lt-ltb, le-ltb}
 use Rattle.gf2.specs.Rows.{differ, Row, Rows, parity, only, tally}
 use Rattle.gf2.specs.Reduction.{Pivots, Free}
@@ -74,11 +75,8 @@ module _ (n : ℕ) (R : Rows) (c : ℕ → ℕ) (f : ℕ) where
           all.each (c i)
           ∙ ap₂ (λ a b. differ a b) (ne_eqb (c i) f (fr i l)) (parity_alone (puts n R c f (c i)) n i l others)
           ∙ ap₂ (λ a b. (a && R i f) && b) (lt-ltb (c i) n k) (eq-eqb (c i) (c i) refl)
-          ∙ and_true (R i f)
+          ∙ and-true (R i f)
         where
-          and_true : (a : Bool) → (a && true) ≡ a
-          and_true a = grind arith
-
           others : (i' : ℕ) → i' < n → i' ≢ i → puts n R c f (c i) i' ≡ false
           others i' l' ne = not_here (c i) i' (λ e. ne (sym (pivots_apart n R c p i i' l l' k e)))
 

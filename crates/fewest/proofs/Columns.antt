@@ -2,9 +2,11 @@
 use Rattle.std.proofs.Common.{◌≡◌, ℕ, zero, suc, ◌+◌, ◌<◌, ◌≤◌, Bool, true, false, not, ◌&&◌, ◌||◌, eqb, ◌⊎◌, sym, refl, ap, ◌∙◌, ap₂, inl, inr, not-suc-le-zero, add-one, arith}
 use mathlib.Core.Bool.{false≢true}
 use Rattle.gf2.proofs.Parity.{differ_false}
+use Rattle.std.proofs.Math.Bool.{or-true}
 use Rattle.std.proofs.lemmas.Bool.{cases_Bool, cases_eq, eq-eqb, ne_eqb}
 use Rattle.gf2.specs.Rows.{differ, Row, Rows, parity, tally, one}
-use Rattle.gf2.specs.Reduction.{Free, Marks}
+use Rattle.gf2.specs.Reduction.{Pivots, Free, Marks}
+use Rattle.echelon.specs.Laws.{ZeroRows}
 use Rattle.fewest.specs.Sets.{taken, free}
 use Rattle.fewest.proofs.Sums.{choose, parity_choose}
 
@@ -30,13 +32,10 @@ module _ (n : ℕ) (c : ℕ → ℕ) (v : Row) (i : ℕ) (so_far : (j : ℕ) →
 
   pub taken_again : c i < n → true ≡ v (c i) → (j : ℕ) → j < n → v j ≡ taken (i + 1) c j
   taken_again k t j l = so_far j l ∙ sym (next j (taken i c j) (elim (cases_eq (c i) j) [
-    | inl e ↦ ap (λ b. eqb (c i) j || b) (here e) ∙ or_true (eqb (c i) j) ∙ sym (here e)
+    | inl e ↦ ap (λ b. eqb (c i) j || b) (here e) ∙ or-true (eqb (c i) j) ∙ sym (here e)
     | inr ne ↦ ap (λ b. b || taken i c j) (ne_eqb (c i) j ne)
   ]))
     where
-      or_true : (a : Bool) → (a || true) ≡ true
-      or_true a = grind arith
-
       here : c i ≡ j → taken i c j ≡ true
       here e = sym (so_far j l) ∙ ap v (sym e) ∙ sym t
 
@@ -60,6 +59,10 @@ free_marks n c = record {
 
 pub free_is : (n : ℕ) (c : ℕ → ℕ) (j : ℕ) → free n c j ≡ true → Free n c j
 free_is n c j t i l e = false≢true (sym (ap (λ b. not b) (taken_here n c j i l e)) ∙ t)
+
+-- as many columns are free as rows have no pivot
+pub free_many : (n k : ℕ) (c : ℕ → ℕ) (R : Rows) → ZeroRows n c k → Pivots n R c → k ≡ tally (free n c) n
+free_many n k c R zeros pv = zeros.free R (free n c) pv (free_marks n c)
 
 module _ (g : ℕ → Bool) where
   rank_zero : tally g 0 ≡ 0

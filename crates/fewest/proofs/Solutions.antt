@@ -1,6 +1,7 @@
 -- With rows that span what is quiet, the least among the sums with a solution is least among all solutions. Assumes nothing.
-use Rattle.std.proofs.Common.{◌≡◌, ℕ, zero, suc, ◌+◌, ◌-◌, ◌*◌, ◌<◌, ◌≤◌, Bool, true, false, ◌&&◌, ◌≢◌, ◌⊎◌, Option, List, sym, refl, ap, ◌∙◌, subst, ap₂, inl, inr, arith}
+use Rattle.std.proofs.Common.{◌≡◌, ℕ, zero, suc, ◌+◌, ◌-◌, ◌<◌, ◌≤◌, Bool, true, false, ◌&&◌, ◌≢◌, ◌⊎◌, sym, refl, ap, ◌∙◌, subst, ap₂, inl, inr, arith}
 use mathlib.Core.Path.{fun_ext}
+use Rattle.std.proofs.Math.Bool.{and-true}
 use Rattle.std.proofs.lemmas.Bool.{cases_Bool, eq-eqb, ne_eqb, leb-true, leb-false}
 use Rattle.gf2.specs.Rows.{differ, Row, Rows, Same, parity, sum, nowhere, dot, act, tally, one}
 use Rattle.gf2.specs.Reduction.{Tracks, Pivots, Quiet}
@@ -13,8 +14,8 @@ use Rattle.gf2.proofs.Tally.{tally_cong}
 use Rattle.bits.proofs.Counts.{tally_cat}
 use Rattle.solve.specs.Solved.{Within, Shows, zero_row}
 use Rattle.solve.proofs.Placing.{parity_within}
-use Rattle.matrix.specs.Cells.{cell, Spare}
-use Rattle.fewest.specs.Sets.{free, QuietSet, Copied, Collected, chosen, sum_of, Spans, OneChoice, accepts, may_take, Least, Fewest, FewestShowing}
+use Rattle.matrix.specs.Cells.{Spare}
+use Rattle.fewest.specs.Sets.{free, QuietSet, Copied, Collected, chosen, sum_of, Spans, OneChoice, accepts, Least, Fewest, FewestShowing}
 use Rattle.fewest.proofs.Columns.{free_marks, free_is, rank_below, ranked, by_rank}
 
 none_on : (n : ℕ) (f : Row) → ((j : ℕ) → f j ≡ false) → tally f n ≡ 0
@@ -109,11 +110,8 @@ module _ (n : ℕ) (R : Rows) (c : ℕ → ℕ) (k : ℕ) (S : Rows) (col : Coll
         let w = column b l in
         parity_alone (λ a. d a && S a w.0) k b l (λ a m ne. ap (λ x. d a && x) (off a m ne) ∙ and_false (d a))
         ∙ ap (λ x. d b && x) ((w.4.vector pv (free_is n c w.0 w.2)).free w.0 w.1 (free_is n c w.0 w.2) ∙ eq-eqb w.0 w.0 refl)
-        ∙ and_true (d b)
+        ∙ and-true (d b)
       where
-        and_true : (a : Bool) → (a && true) ≡ a
-        and_true a = grind arith
-
         off : (a : ℕ) (m : a < k) → a ≢ b → S a (column b l).0 ≡ false
         off a m ne =
             let w = column b l in
@@ -165,11 +163,6 @@ module _ (n : ℕ) (T : Rows) (c : ℕ → ℕ) (k : ℕ) (S : Rows) (col : Coll
             each v off j i b (inr f) = ap (λ x. x && T i j) (off i b (leb-false n (c i) f)) ∙ ap (λ z. (z && v i) && S (tally (zero_row n c) i) j) (sym f)
 
 -- ---- a fewest way, and a fewest set that shows that there is none
-
--- least among rows of w words, which are `width`
-pub least_at : (w width k : ℕ) (xs : List ℕ) (against : Option (List ℕ)) (p old new : Row) (bound count : ℕ) → w ≡ width
-    → Least (64 * w) k (cell xs w) (may_take (64 * w) against) p old new bound count → Least (64 * width) k (cell xs width) (may_take (64 * width) against) p old new bound count
-least_at w width k xs against p old new bound count e l = subst (λ x. Least (64 * x) k (cell xs x) (may_take (64 * x) against) p old new bound count) e l
 
 pub way_fewest : (n m k : ℕ) (A S : Rows) (s t p new : Row) (bound count : ℕ) → n ≤ m → Spans n A k S → Same n (act n A p) s → Within n p
     → Least m k S (accepts m false t) p p new bound count → Fewest n A s new

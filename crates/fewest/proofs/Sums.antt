@@ -1,12 +1,12 @@
 -- The least among the sums of a row with some of k others. Assumes nothing.
-use Rattle.std.proofs.Common.{◌≡◌, ℕ, suc, ◌≤◌, Bool, true, false, ◌&&◌, eqb, ◌⊎◌, sym, refl, ap, ◌∙◌, ap₂, inl, inr, arith}
+use Rattle.std.proofs.Common.{◌≡◌, ℕ, suc, ◌*◌, ◌≤◌, Bool, true, false, ◌&&◌, eqb, ◌⊎◌, Option, List, sym, refl, ap, ◌∙◌, subst, ap₂, inl, inr, arith}
 use mathlib.Core.Path.{fun_ext}
-use mathlib.Core.Bool.{false≢true}
 use Rattle.std.proofs.lemmas.Bool.{eq-eqb, ne_eqb, cases_Bool}
 use Rattle.gf2.specs.Rows.{pick, differ, Row, Rows, parity, tally}
-use Rattle.gf2.proofs.Parity.{parity_cong, differ_false}
+use Rattle.gf2.proofs.Parity.{parity_cong, differ_false, differ_assoc}
 use Rattle.gf2.proofs.Tally.{tally_cong}
-use Rattle.fewest.specs.Sets.{sum_of, Least}
+use Rattle.matrix.specs.Cells.{cell}
+use Rattle.fewest.specs.Sets.{sum_of, may_take, Least}
 
 -- a choice for one more
 abbrev pub choose : (ℕ → Bool) → ℕ → Bool → ℕ → Bool
@@ -17,9 +17,6 @@ pub parity_choose : (e : ℕ → Bool) (S : Rows) (k : ℕ) (x : Bool) (j : ℕ)
 parity_choose e S k x j = ap₂ (λ a b. differ a b)
     (ap (λ t. pick t x (e k) && S k j) (eq-eqb k k refl))
     (parity_cong (λ b. choose e k x b && S b j) (λ b. e b && S b j) k (λ b l. ap (λ t. pick t x (e b) && S b j) (ne_eqb b k (omega arith))))
-
-differ_in : (a b c : Bool) → differ a (differ b c) ≡ differ (differ a b) c
-differ_in a b c = grind arith
 
 -- x is turned over where s is, and back again
 pub turned : {x y z s t : Bool} → x ≡ differ y s → y ≡ z → s ≡ t → x ≡ differ z t
@@ -48,28 +45,11 @@ module _ (m : ℕ) (S : Rows) (ok : Row → Bool) (p : Row) where
     one_of = inr (λ _. false, λ j. same j ∙ sym (none_added (λ _. false) j), moved new p same t);
   }
 
-  module _ (old : Row) (bound : ℕ) (counted : bound ≡ tally old m) where
-    pub least_kept : (count : ℕ) → count ≡ tally p m → bound ≤ count → Least m 0 S ok p old old bound bound
-    least_kept count e l = record {
-      counted = counted;
-      below = omega arith;
-      least = λ c _. omega (arith, e ∙ sym (tally_cong (sum_of 0 c S p) p m (λ j _. none_added c j)));
-      one_of = inl (λ j. refl);
-    }
-
-    pub least_refused : ok p ≡ false → Least m 0 S ok p old old bound bound
-    least_refused f = record {
-      counted = counted;
-      below = omega arith;
-      least = λ c t. absurd (false≢true (sym f ∙ moved p (sum_of 0 c S p) (λ j. sym (none_added c j)) t));
-      one_of = inl (λ j. refl);
-    }
-
   -- one set more: p₁ is p with row k added
   module _ (k : ℕ) (p₁ old mid new : Row) (bound c₁ c₂ : ℕ) (add : (j : ℕ) → p₁ j ≡ differ (p j) (S k j))
       (a : Least m k S ok p old mid bound c₁) (b : Least m k S ok p₁ mid new c₁ c₂) where
     with_it : (e : ℕ → Bool) (j : ℕ) → sum_of k e S p₁ j ≡ differ (p j) (differ (S k j) (parity (λ b. e b && S b j) k))
-    with_it e j = ap (λ x. differ x (parity (λ b. e b && S b j) k)) (add j) ∙ sym (differ_in (p j) (S k j) (parity (λ b. e b && S b j) k))
+    with_it e j = ap (λ x. differ x (parity (λ b. e b && S b j) k)) (add j) ∙ differ_assoc (p j) (S k j) (parity (λ b. e b && S b j) k)
 
     every : (e : ℕ → Bool) → ok (sum_of (suc k) e S p) ≡ true → (e k ≡ true) ⊎ (e k ≡ false) → c₂ ≤ tally (sum_of (suc k) e S p) m
     every e u (inl t) =
@@ -95,3 +75,8 @@ module _ (m : ℕ) (S : Rows) (ok : Row → Bool) (p : Row) where
       least = λ e u. every e u (cases_Bool (e k));
       one_of = some b.one_of a.one_of;
     }
+
+-- least among rows of w words, which are `width`
+pub least_at : (w width k : ℕ) (xs : List ℕ) (against : Option (List ℕ)) (p old new : Row) (bound count : ℕ) → w ≡ width
+    → Least (64 * w) k (cell xs w) (may_take (64 * w) against) p old new bound count → Least (64 * width) k (cell xs width) (may_take (64 * width) against) p old new bound count
+least_at w width k xs against p old new bound count e l = subst (λ x. Least (64 * x) k (cell xs x) (may_take (64 * x) against) p old new bound count) e l

@@ -1,6 +1,6 @@
 -- The quiet sets of a system in reduced steps, and the least among the sums of some of them with a row. Assumes nothing: these are definitions.
 use Rattle.std.specs.Prelude.{◌≡◌, ℕ, zero, suc, ◌<◌, ◌≤◌, Bool, true, false, not, Option, None, Some, ◌&&◌, ◌||◌, ◌⊎◌, List, length, ◌==◌}
-use denote.Ref.{MutBor}
+use Rattle.std.specs.Borrow.{MutBor}
 use Rattle.gf2.specs.Rows.{differ, Row, Rows, Same, nowhere, parity, tally, act}
 use Rattle.gf2.specs.Reduction.{Tracks, Pivots, Free, Vector, Quiet}
 use Rattle.bits.specs.Bits.{bit_of}

@@ -98,9 +98,9 @@ pub fn collect_zero(steps: &Steps, sets: &mut [u64]) -> u16
 }
 
 // Whether the row may be taken: if it is to be odd `against` a set, it has an odd number of bits in common with it.
-fn accepted(row: &[u64], against: Option<&[u64]>) -> bool
-    requires { IfSome against (λ set. length set.now ≡ length row.now) }
-    ensures { result ≡ may_take (64 * length row.now) (option_copied against.entry) (bit_of row.now) }
+fn accepted(row: &[u64], against: &Option<&[u64]>) -> bool
+    requires { IfSome against.now (λ set. length set.now ≡ length row.now) }
+    ensures { result ≡ may_take (64 * length row.now) (option_copied against.now) (bit_of row.now) }
 {
     match against {
         Some(set) => bits::parity_and(row, set),
@@ -109,53 +109,51 @@ fn accepted(row: &[u64], against: Option<&[u64]>) -> bool
 }
 
 // Goes through the sums of `current` with some of the first `k` sets, and keeps the least that may be taken in `best`, of `best_count` bits.
+// `against` is lent: a copy of it for each call takes a third of the time again.
 pub fn least(
     k: usize,
-    width: usize,
     current: &mut [u64],
     best: &mut [u64],
     best_count: u32,
     sets: &[u64],
-    against: Option<&[u64]>,
+    against: &Option<&[u64]>,
 ) -> u32
-    requires narrow { width ≤ 16 }
-    requires current { length current.old ≡ width }
-    requires best { length best.old ≡ width }
-    requires sets { k * width ≤ length sets.now }
-    requires counted { best_count ≡ tally (bit_of best.old) (64 * width) }
-    requires against { IfSome against (λ set. length set.now ≡ width) }
+    requires narrow { length current.old ≤ 16 }
+    requires best { length best.old ≡ length current.old }
+    requires sets { k * length current.old ≤ length sets.now }
+    requires counted { best_count ≡ tally (bit_of best.old) (64 * length current.old) }
+    requires against { IfSome against.now (λ set. length set.now ≡ length current.old) }
     ensures back { current.new ≡ current.old }
-    ensures least { Least (64 * width) k (cell sets.now width) (may_take (64 * width) (option_copied against.entry)) (bit_of current.old) (bit_of best.old) (bit_of best.new) best_count result }
+    ensures least { Least (64 * length current.old) k (cell sets.now (length current.old)) (may_take (64 * length current.old) (option_copied against.now)) (bit_of current.old) (bit_of best.old) (bit_of best.new) best_count result }
 {
     if k == 0 {
-        let set = bits::count(current);
-        if set < best_count && accepted(current, against) {
+        let count = bits::count(current);
+        if count < best_count && accepted(current, against) {
             best.copy_from_slice(current);
-            return set;
+            return count;
         }
         return best_count;
     }
-    let start = (k - 1) * width;
-    let without = least(k - 1, width, current, best, best_count, sets, against);
-    bits::xor_into(current, &sets[start..start + width]);
-    let with = least(k - 1, width, current, best, without, sets, against);
-    bits::xor_into(current, &sets[start..start + width]);
+    let set = matrix::row(sets, current.len(), k - 1);
+    let without = least(k - 1, current, best, best_count, sets, against);
+    bits::xor_into(current, set);
+    let with = least(k - 1, current, best, without, sets, against);
+    bits::xor_into(current, set);
     with
 }
 
 // The row becomes the least among its sums with some of the first `k` sets that may be taken.
-fn improve(row: &mut [u64], k: usize, sets: &[u64], against: Option<&[u64]>)
+fn improve(row: &mut [u64], k: usize, sets: &[u64], against: &Option<&[u64]>)
     requires narrow { length row.old ≤ 16 }
     requires sets { k * length row.old ≤ length sets.now }
-    requires against { IfSome against (λ set. length set.now ≡ length row.old) }
-    ensures { Least (64 * length row.old) k (cell sets.now (length row.old)) (may_take (64 * length row.old) (option_copied against.entry)) (bit_of row.old) (bit_of row.old) (bit_of row.new) (tally (bit_of row.old) (64 * length row.old)) (tally (bit_of row.new) (64 * length row.old)) }
+    requires against { IfSome against.now (λ set. length set.now ≡ length row.old) }
+    ensures { Least (64 * length row.old) k (cell sets.now (length row.old)) (may_take (64 * length row.old) (option_copied against.now)) (bit_of row.old) (bit_of row.old) (bit_of row.new) (tally (bit_of row.old) (64 * length row.old)) (tally (bit_of row.new) (64 * length row.old)) }
 {
-    let width = row.len();
     let mut space = [0; 16];
-    let current = &mut space[0..width];
+    let current = &mut space[0..row.len()];
     current.copy_from_slice(row);
     let count = bits::count(row);
-    let _ = least(k, width, current, row, count, sets, against);
+    let _ = least(k, current, row, count, sets, against);
 }
 
 // From a way, one with the fewest presses, if at most sixteen columns are free; else the same. Returns how many are free.
@@ -167,7 +165,7 @@ pub fn fewest_way(steps: &Steps, way: &mut [u64]) -> u16
     if k <= 16 {
         let mut sets = [0; 256];
         let _ = collect(steps, &mut sets);
-        improve(way, k as usize, &sets, None);
+        improve(way, k as usize, &sets, &None);
     }
     k
 }
@@ -181,7 +179,7 @@ pub fn fewest_never(steps: &Steps, lit: &[u64], set: &mut [u64]) -> u16
     let mut sets = [0; 256];
     let k = collect_zero(steps, &mut sets);
     if k <= 16 {
-        improve(set, k as usize, &sets, Some(lit));
+        improve(set, k as usize, &sets, &Some(lit));
     }
     k
 }

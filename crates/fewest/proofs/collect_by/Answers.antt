@@ -1,12 +1,9 @@
 use Rattle.std.proofs.Common.{◌+◌, ◌*◌, ◌≤◌, length, refl, sym, ◌∙◌, arith}
 use Rattle.matrix.specs.Cells.{width_of}
 use Rattle.matrix.proofs.Memory.{row_within}
-use Rattle.fewest.proofs.Building.{collected_none, collected_off, collected_past, collected_put, collected_all, set_put, lent_long}
+use Rattle.fewest.proofs.Building.{collected_off, collected_past, collected_put, collected_all, set_put, lent_long}
 use Rattle.fewest.proofs.collect_by.Goals as goal
 use Rattle.fewest.proofs.collect_by.Goals.{then-counts, then-k-lt16, else-k-lt16, else-counts}
-
-pub loop-i-init : goal.loop-i-init
-loop-i-init g c = (λ t h. collected_none _ _ _, omega arith, refl)
 
 pub loop-i-preserved : goal.loop-i-preserved
 loop-i-preserved g c =

@@ -1,5 +1,6 @@
 use Rattle.std.proofs.Common.{Some, arith}
-use Rattle.fewest.proofs.Solutions.{least_at, zero_spans, never_fewest}
+use Rattle.fewest.proofs.Sums.{least_at}
+use Rattle.fewest.proofs.Solutions.{zero_spans, never_fewest}
 use Rattle.fewest.proofs.fewest_never.Goals as goal
 
 pub returns-then-k-le16 : goal.returns-then-k-le16

@@ -1,13 +1,10 @@
-use Rattle.std.proofs.Common.{◌≡◌, ℕ, ◌+◌, ◌<◌, List, length, sym, refl, ◌∙◌, subst}
+use Rattle.std.proofs.Common.{◌≡◌, ℕ, ◌+◌, ◌<◌, List, length, sym, ◌∙◌, subst}
 use Rattle.bits.specs.Bits.{bit_of}
 use Rattle.echelon.specs.Steps.{column_of}
 use Rattle.fewest.specs.Sets.{taken}
 use Rattle.fewest.proofs.Columns.{taken_again, taken_new, taken_past}
 use Rattle.fewest.proofs.mark_pivots.Goals as goal
 use Rattle.fewest.proofs.mark_pivots.Goals.{then-column-steps+then-not-get, else-column-steps, else-column-steps-via-then-column-steps+else-not-get, else-column-steps-via-else-column-steps}
-
-pub loop-column-init : goal.loop-column-init
-loop-column-init c = (λ j _. c.zero.ensures j, refl)
 
 pub loop-column-preserved : goal.loop-column-preserved
 loop-column-preserved c =

@@ -2,12 +2,9 @@ use Rattle.std.proofs.Common.{◌≡◌, ℕ, ◌+◌, List, length, sym, ◌∙
 use Rattle.bits.specs.Bits.{bit_of}
 use Rattle.matrix.specs.Cells.{width_of, cell}
 use Rattle.echelon.specs.Steps.{column_of}
-use Rattle.fewest.proofs.Building.{Building, building_none, building_on, building_off, building_past, building_end}
+use Rattle.fewest.proofs.Building.{Building, building_on, building_off, building_past, building_end}
 use Rattle.fewest.proofs.quiet_set.Goals as goal
 use Rattle.fewest.proofs.quiet_set.Goals.{then-column-steps+then-has, else-column-steps, else-column-steps-via-then-column-steps+else-has, else-column-steps-via-else-column-steps}
-
-pub loop-i-init : goal.loop-i-init
-loop-i-init c = (building_none _ _ _ _ _ _ c.zero.ensures c.flip.ensures, omega arith)
 
 pub loop-i-preserved : goal.loop-i-preserved
 loop-i-preserved c =
