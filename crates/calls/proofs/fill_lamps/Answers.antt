@@ -11,5 +11,4 @@ loop-i-preserved c =
     ∙ packed_more (eight (listed c.args.n (bit_of c.args.row.now))) c.loop-i.out c.args.out.now c.loop-i.i (omega arith) c.loop-i.invariant
 
 pub returns : goal.returns
-returns c =
-    packed_all c.args.n c.loop-i.i c.div_ceil-count.result (bit_of c.args.row.now) c.loop-i.out c.args.out.now (omega arith) (omega arith) c.loop-i.invariant
+returns c = packed_all c.args.n c.loop-i.i (bit_of c.args.row.now) c.loop-i.out c.args.out.now (omega arith) (omega arith) c.loop-i.invariant
