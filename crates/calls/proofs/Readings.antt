@@ -142,6 +142,7 @@ reads (suc (suc (suc (suc zero))) ∷ xs) h = rw (by_number 4 xs) (read_none 4 O
 reads (suc (suc (suc (suc (suc zero)))) ∷ xs) h = rw (by_number 5 xs) (read_none 5 Ways xs refl tt refl)
 reads (suc (suc (suc (suc (suc (suc t))))) ∷ xs) h = rw (by_number (suc (suc (suc (suc (suc (suc t)))))) xs) (read_unknown (suc (suc (suc (suc (suc (suc t)))))) xs (omega arith) refl)
 
+-- the same of what the code read: its bytes are bytes by their type
 pub reads_as : (bs : List ℕ) (r : Result Call Refusal) → ((k : ℕ) → Fits w8 (get_or bs k 0)) → r ≡ decoded bs → Reads bs r
 reads_as bs r fits is = subst (Reads bs) (sym is) (reads bs (λ k. omega (arith, fits k)))
 

@@ -1,11 +1,11 @@
 // Calls and answers as bytes.
 #![tactic(auto)]
 
-ghost use Rattle.std.specs.Prelude.{◌≡◌, ◌+◌, ◌*◌, ◌/◌, ◌%◌, ◌<◌, ◌≤◌, min, [], ◌∷◌, ◌++◌, length, slice_set};
+ghost use Rattle.std.specs.Prelude.{◌≡◌, ◌+◌, ◌*◌, ◌/◌, ◌<◌, ◌≤◌, min, ◌∷◌, length};
 ghost use Rattle.lamps.specs.Lamps.{listed};
 ghost use Rattle.bits.specs.Bits.{bit_of};
-ghost use Rattle.calls.specs.Bytes.{two, two_bytes, eight, packed, Put, Puts};
-ghost use Rattle.calls.specs.Reading.{decoded, encoded, exactly, numbered};
+ghost use Rattle.calls.specs.Bytes.{two_bytes, eight, packed, Put, Puts};
+ghost use Rattle.calls.specs.Reading.{decoded, encoded};
 ghost use Rattle.calls.specs.Saying.{number_of, place_of, said, written, lamps_of, with_lamps};
 ghost use Rattle.calls.specs.Laws.{Reads, OfCalls, OfAnswers};
 
@@ -49,8 +49,7 @@ impl Refusal {
         match self {
             Refusal::Unreadable(_) => 1,
             Refusal::Itself => 2,
-            Refusal::BadSize => 3,
-            Refusal::ShortMemory => 3,
+            Refusal::BadSize | Refusal::ShortMemory => 3,
             Refusal::NoLamp => 4,
         }
     }
