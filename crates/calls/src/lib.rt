@@ -140,37 +140,44 @@ pub fn write_call(call: Call, out: &mut [u8]) -> Option<usize>
     }
 }
 
-// Eight lamps of the row, from lamp 8 × i on: those past the last are 0.
-fn lamp_byte(row: &[u64], n: u16, i: usize) -> u8
-    requires some { 8 * i < n }
-    requires within { i / 8 < length row.now }
-    ensures { result ≡ eight (listed n (bit_of row.now)) i }
-{
-    let left = (n as usize - 8 * i).min(8);
-    ((row[i / 8] >> (8 * (i % 8))) & ((1 << left) - 1)) as u8
+// Lamps as the first bits of a row.
+#[derive(Clone, Copy)]
+struct LampRow<'a> {
+    count: u16,
+    row: &'a [u64],
+    ghost held: { (count + 63) / 64 ≤ length row.now },
 }
 
-// Writes the first `n` lamps of the row as bits, eight to a byte.
-fn fill_lamps(out: &mut [u8], row: &[u64], n: u16)
-    requires room { length out.old ≡ (n + 7) / 8 }
-    requires long { (n + 63) / 64 ≤ length row.now }
-    ensures { out.new ≡ packed (listed n (bit_of row.now)) }
-{
-    for (i, byte) in out.iter_mut().enumerate() {
-        *byte = lamp_byte(row, n, i);
+impl LampRow<'_> {
+    // Eight of them, from lamp 8 × i on: those past the last are 0.
+    fn byte(&self, i: usize) -> u8
+        requires { 8 * i < self.now.count }
+        ensures { result ≡ eight (listed self.now.count (bit_of self.now.row.now)) i }
+    {
+        let left = (self.count as usize - 8 * i).min(8);
+        ((self.row[i / 8] >> (8 * (i % 8))) & ((1 << left) - 1)) as u8
     }
-}
 
-// Writes an answer with lamps: their number, and then they themselves.
-fn write_lamps(number: u8, n: u16, row: &[u64], out: &mut [u8]) -> usize
-    requires room { (n + 7) / 8 + 3 ≤ length out.old }
-    requires long { (n + 63) / 64 ≤ length row.now }
-    ensures { Put (with_lamps number (listed n (bit_of row.now))) out.old out.new result }
-{
-    let end = 3 + n.div_ceil(8) as usize;
-    put(&with_number(number, n), out);
-    fill_lamps(&mut out[3..end], row, n);
-    end
+    // Writes them as bits, eight to a byte.
+    fn fill(&self, out: &mut [u8])
+        requires { length out.old ≡ (self.now.count + 7) / 8 }
+        ensures { out.new ≡ packed (listed self.now.count (bit_of self.now.row.now)) }
+    {
+        for (i, byte) in out.iter_mut().enumerate() {
+            *byte = self.byte(i);
+        }
+    }
+
+    // Writes an answer of this number: how many they are, and then they themselves.
+    fn write(&self, number: u8, out: &mut [u8]) -> usize
+        requires { (self.now.count + 7) / 8 + 3 ≤ length out.old }
+        ensures { Put (with_lamps number (listed self.now.count (bit_of self.now.row.now))) out.old out.new result }
+    {
+        let end = 3 + self.count.div_ceil(8) as usize;
+        put(&with_number(number, self.count), out);
+        self.fill(&mut out[3..end]);
+        end
+    }
 }
 
 // Writes the bytes of an answer, and says how many they are.
@@ -185,10 +192,10 @@ pub fn write_answer(answer: Answer, row: &[u64], out: &mut [u8]) -> usize
             put(&[0, refusal.number(), low, high], out)
         }
         Answer::Number(k) => put(&with_number(1, k), out),
-        Answer::Lit(n) => write_lamps(2, n, row, out),
-        Answer::Fewest(n) => write_lamps(3, n, row, out),
-        Answer::SomeWay(n) => write_lamps(4, n, row, out),
-        Answer::Never(n) => write_lamps(5, n, row, out),
+        Answer::Lit(count) => LampRow { count, row }.write(2, out),
+        Answer::Fewest(count) => LampRow { count, row }.write(3, out),
+        Answer::SomeWay(count) => LampRow { count, row }.write(4, out),
+        Answer::Never(count) => LampRow { count, row }.write(5, out),
     }
 }
 
