@@ -1,13 +1,14 @@
 -- Lamps packed as bits, eight to a byte. Assumes nothing.
-use Rattle.std.proofs.Common.{◌≡◌, ℕ, zero, suc, ◌+◌, ◌-◌, ◌*◌, ◌/◌, ◌%◌, ◌^◌, ◌<◌, ◌≤◌, min, Bool, true, false, ◌&&◌, eqb, ltb, List, [], ◌∷◌, ◌++◌, map, length, get_or, take, drop, set, sym, refl, ap, ◌∙◌, ap₂, ⊎_elim, mod-lt, pow-suc, arith, pow_pos, pow_mono, shr-shr}
+use Rattle.std.proofs.Common.{◌≡◌, ℕ, zero, suc, ◌+◌, ◌-◌, ◌*◌, ◌/◌, ◌%◌, ◌^◌, ◌<◌, ◌≤◌, min, Bool, true, false, ◌&&◌, eqb, ltb, List, [], ◌∷◌, ◌++◌, map, length, get_or, drop, set, sym, refl, ap, ◌∙◌, ap₂, ⊎_elim, mod-lt, pow-suc, arith, pow_pos, pow_mono, shr-shr}
 use lib.Bits.{bit_and}
 use borrow.Rule.Slice.PartMut.{put_mid}
 use Rattle.std.specs.List.{range_with_len}
 use Rattle.std.proofs.lemmas.Nat.{one_shl, and_le_r}
 use Rattle.std.proofs.lemmas.List.FromFn.{get_or-map-range_with_len, length-map-range_with_len, map-range_with_len_more}
-use Rattle.std.proofs.lemmas.List.{get_or_past, get_or_append_left, drop_more, set_at, append_assoc, append-nil, drop-drop, drop_all, take_rest}
+use Rattle.std.proofs.lemmas.List.{get_or_past, get_or_append_left, drop_more, set_at, append_assoc, append-nil, drop-drop, drop_all}
 use Rattle.std.proofs.lemmas.Bool.{cases_lt, lt-ltb, le-ltb, eq-eqb, ne_eqb, and_right}
 use Rattle.std.proofs.lemmas.Bool.Decides.{nat_tests}
+use Rattle.std.proofs.Math.Bool.{and-true}
 use Rattle.gf2.specs.Rows.{one}
 use Rattle.lamps.specs.Lamps.{Lamps, at, listed}
 use Rattle.lamps.proofs.Listed.{length_listed, at_listed, listed_same, listed_at}
@@ -64,10 +65,6 @@ bit_ones (suc m) (suc k) =
 
 -- ---- a byte of lamps, as the code makes it
 
-and_on : (x y : Bool) → y ≡ true → (x && y) ≡ x
-and_on true y h = h
-and_on false y h = refl
-
 at_past : (n : ℕ) (f : ℕ → Bool) (k : ℕ) → n ≤ k → at (listed n f) k ≡ false
 at_past n f k h = get_or_past (listed n f) k false (rw length_listed h)
 
@@ -89,7 +86,7 @@ lamps_byte ws n i left least =
 
     within : (j : ℕ) → j < 8 → 8 * i + j < n → bit byte j ≡ at (listed n (bit_of ws)) (8 * i + j)
     within j h l =
-        and_bit shifted (2 ^ left - 1) j ∙ and_on _ _ (bit_ones left j ∙ lt-ltb j left (omega arith)) ∙ inner j h
+        and_bit shifted (2 ^ left - 1) j ∙ ap (λ b. bit shifted j && b) (bit_ones left j ∙ lt-ltb j left (omega arith)) ∙ and-true _ ∙ inner j h
         ∙ sym (at_listed n (bit_of ws) (8 * i + j) l)
 
     beyond : (j : ℕ) → j < 8 → n ≤ 8 * i + j → bit byte j ≡ at (listed n (bit_of ws)) (8 * i + j)
@@ -112,14 +109,13 @@ packed_more f xs old i h e =
     ∙ sym (append_assoc (map f (range_with_len 0 i)) (f i ∷ []) _) ∙ ap (λ l. l ++ drop (i + 1) old) (sym (map-range_with_len_more f 0 i i (omega arith)))
 
 -- and once all are written
-pub packed_all : (n i count : ℕ) (f : ℕ → Bool) (xs old : List ℕ) → i ≡ count → count ≡ (n + 7) / 8 → xs ≡ map (eight (listed n f)) (range_with_len 0 i) ++ drop i old
-    → Put (packed (listed n f)) old xs count
+pub packed_all : (n i : ℕ) (f : ℕ → Bool) (xs old : List ℕ) → i ≡ (n + 7) / 8 → length old ≡ i → xs ≡ map (eight (listed n f)) (range_with_len 0 i) ++ drop i old → xs ≡ packed (listed n f)
 unfolding packed
-packed_all n i count f xs old all is e =
-    record { count = sym (length_packed (listed n f) ∙ as_many); holds = e ∙ ap₂ (λ j k. map (eight (listed n f)) (range_with_len 0 j) ++ drop k old) (all ∙ sym as_many) all }
+packed_all n i f xs old all none e =
+    e ∙ ap₂ (λ j r. map (eight (listed n f)) (range_with_len 0 j) ++ r) as_many (drop_all i old (omega arith)) ∙ append-nil _
   where
-    as_many : (length (listed n f) + 7) / 8 ≡ count
-    as_many = rw length_listed (sym is)
+    as_many : i ≡ (length (listed n f) + 7) / 8
+    as_many = rw length_listed all
 
 -- reading lamps back
 pub unpacked_packed : (ls : Lamps) (rest : List ℕ) → unpacked (length ls) (packed ls ++ rest) ≡ ls
@@ -134,32 +130,10 @@ unpacked_packed ls rest = listed_same (length ls) _ (at ls) each ∙ listed_at l
         ap (λ x. bit x (k % 8)) (get_or_append_left bytes rest 0 (k / 8) (rw length-map-range_with_len (omega arith)) ∙ get_or-map-range_with_len (eight ls) 0 _ (k / 8) (k / 8) 0 (omega arith) (omega arith))
         ∙ bit_valued 8 (λ j. at ls (8 * (k / 8) + j)) (k % 8) (omega arith) ∙ ap (at ls) (omega arith)
 
--- ---- lamps in the rest of an answer, past its first three bytes
-
--- m with its first three bytes written
-abbrev headed : List ℕ → ℕ → ℕ → List ℕ
-headed m t n = set (set (set m 0 t) 1 (n % 256)) 2 (n / 256)
-
--- h with what its rest became
-abbrev rest_put : List ℕ → List ℕ → List ℕ
-rest_put h ys = put_mid 3 (length h - 3) h ys
-
-past_three : (m ys : List ℕ) (t k : ℕ) (ls : Lamps) → 3 ≤ length m → (h : List ℕ) → h ≡ headed m t (length ls)
-    → Put (packed ls) (take (length h - 3) (drop 3 h)) ys k → Put (with_lamps t ls) m (rest_put h ys) (3 + k)
-past_three [] ys t k ls long h is put = absurd (omega arith)
-past_three (x ∷ []) ys t k ls long h is put = absurd (omega arith)
-past_three (x ∷ y ∷ []) ys t k ls long h is put = absurd (omega arith)
-past_three (x ∷ y ∷ z ∷ r) ys t k ls long h is put = record { count = omega (arith, put.count); holds = ap (λ l. rest_put l ys) is ∙ ap (λ l. t ∷ (two_bytes (length ls) ++ l)) kept }
-  where
-    whole : take (length h - 3) (drop 3 h) ≡ r
-    whole = take_rest h 3 ∙ ap (drop 3) is
-
-    none : drop (length (headed (x ∷ y ∷ z ∷ r) t (length ls)) - 3) r ≡ []
-    none = drop_all _ r (omega arith)
-
-    kept : ys ++ drop (length (headed (x ∷ y ∷ z ∷ r) t (length ls)) - 3) r ≡ packed ls ++ drop (3 + k) (x ∷ y ∷ z ∷ r)
-    kept = ap (λ l. ys ++ l) none ∙ append-nil ys ∙ put.holds ∙ ap (λ l. packed ls ++ l) (ap (drop k) whole ∙ drop-drop k 3 (x ∷ y ∷ z ∷ r))
-
-pub lamps_put : (m ys : List ℕ) (t n k : ℕ) (f : ℕ → Bool) → 3 ≤ length m → (h : List ℕ) → h ≡ headed m t n
-    → Put (packed (listed n f)) (take (length h - 3) (drop 3 h)) ys k → Put (with_lamps t (listed n f)) m (rest_put h ys) (3 + k)
-lamps_put m ys t n k f long h is put = past_three m ys t k (listed n f) long h (is ∙ ap (headed m t) (sym (length_listed n f))) put
+-- lamps in the rest of an answer, past its first three bytes
+pub lamps_put : (out p : List ℕ) (t k : ℕ) (ls : Lamps) → p ≡ (t ∷ two_bytes (length ls)) ++ drop 3 out → k ≡ length (packed ls)
+    → Put (with_lamps t ls) out (put_mid 3 (3 + k - 3) p (packed ls)) (3 + k)
+lamps_put out p t k ls is many = record {
+  count = omega (arith, many);
+  holds = ap (λ l. put_mid 3 (3 + k - 3) l (packed ls)) is ∙ ap (λ l. t ∷ (two_bytes (length ls) ++ (packed ls ++ l))) (ap (λ j. drop j (drop 3 out)) (omega arith) ∙ drop-drop k 3 out);
+}

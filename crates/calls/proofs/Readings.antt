@@ -1,8 +1,9 @@
 -- What bytes are a call, and where others cease to be one. Assumes nothing.
-use Rattle.std.proofs.Common.{◌≡◌, ℕ, zero, suc, ◌+◌, ◌*◌, ◌/◌, ◌%◌, ◌<◌, ◌≤◌, min, false, eqb, List, [], ◌∷◌, ◌++◌, length, get_or, take, drop, Ok, sym, refl, ap, ◌∙◌, subst, ap₂, ⊎_elim, arith, length-append}
+use Rattle.std.proofs.Common.{◌≡◌, ℕ, zero, suc, ◌+◌, ◌*◌, ◌/◌, ◌%◌, ◌<◌, ◌≤◌, min, false, eqb, List, [], ◌∷◌, ◌++◌, length, get_or, take, drop, Result, Ok, Fits, w8, sym, refl, ap, ◌∙◌, subst, ap₂, ⊎_elim, arith, length-append}
 use Rattle.std.proofs.lemmas.List.{ext_get_or, get_or-take, get_or_append_left, length-take, take-append-drop}
 use Rattle.std.proofs.lemmas.Bool.{cases_eq, eq-eqb, ne_eqb}
 use Rattle.calls.specs.declared.Call.{Call}
+use Rattle.calls.specs.declared.Refusal.{Refusal}
 use Rattle.calls.specs.declared.Call.TheVariants.{Wire, Turn, Press, Lit, Out, Ways}
 use Rattle.calls.specs.Bytes.{two_bytes, two}
 use Rattle.calls.specs.Reading.{encoded, exactly, numbered, decoded}
@@ -80,41 +81,32 @@ read_exactly bs es c is small long same = ⊎_elim all some (cases_eq (length bs
     some : (length bs ≡ length es → ⊥) → Reads bs (exactly (length es) bs c)
     some ne = rw (ne_eqb _ _ ne) (_, refl, ceases bs _ _ long refl ne (begun bs es c is small same))
 
-low : (a b : ℕ) → a < 256 → (a + 256 * b) % 256 ≡ a
-low a b h = omega arith
-
-high : (a b : ℕ) → a < 256 → (a + 256 * b) / 256 ≡ b
-high a b h = omega arith
-
-small_two : (a b : ℕ) → a < 256 → b < 256 → a + 256 * b < 65536
-small_two a b h l = omega arith
-
 read_two : (xs : List ℕ) → AllBytes xs → Reads (0 ∷ xs) (exactly 5 (0 ∷ xs) (Wire (two (0 ∷ xs) 1) (two (0 ∷ xs) 3)))
 unfolding whole
-read_two xs h = read_exactly (0 ∷ xs) (encoded wire) wire refl (small_two _ _ (h 0) (h 1), small_two _ _ (h 2) (h 3)) refl same
+read_two xs h = read_exactly (0 ∷ xs) (encoded wire) wire refl (omega (arith, h 0, h 1), omega (arith, h 2, h 3)) refl same
   where
     wire : Call
     wire = Wire (two (0 ∷ xs) 1) (two (0 ∷ xs) 3)
 
     same : (k : ℕ) → k < 5 → get_or (encoded wire) k 0 ≡ get_or (0 ∷ xs) k 0
     same zero l = refl
-    same (suc zero) l = low _ _ (h 0)
-    same (suc (suc zero)) l = high _ _ (h 0)
-    same (suc (suc (suc zero))) l = low _ _ (h 2)
-    same (suc (suc (suc (suc zero)))) l = high _ _ (h 2)
+    same (suc zero) l = omega (arith, h 0)
+    same (suc (suc zero)) l = omega (arith, h 0)
+    same (suc (suc (suc zero))) l = omega (arith, h 2)
+    same (suc (suc (suc (suc zero)))) l = omega (arith, h 2)
     same (suc (suc (suc (suc (suc k))))) l = absurd (omega arith)
 
 read_one : (t : ℕ) (call : ℕ → Call) (xs : List ℕ) → AllBytes xs → ((i : ℕ) → encoded (call i) ≡ t ∷ two_bytes i) → ((i : ℕ) → i < 65536 → Small (call i)) → 3 ≡ whole t
     → Reads (t ∷ xs) (exactly 3 (t ∷ xs) (call (two (t ∷ xs) 1)))
-read_one t call xs h is small long = read_exactly (t ∷ xs) (t ∷ two_bytes i) (call i) (is i) (small i (small_two _ _ (h 0) (h 1))) long same
+read_one t call xs h is small long = read_exactly (t ∷ xs) (t ∷ two_bytes i) (call i) (is i) (small i (omega (arith, h 0, h 1))) long same
   where
     i : ℕ
     i = two (t ∷ xs) 1
 
     same : (k : ℕ) → k < 3 → get_or (t ∷ two_bytes i) k 0 ≡ get_or (t ∷ xs) k 0
     same zero l = refl
-    same (suc zero) l = low _ _ (h 0)
-    same (suc (suc zero)) l = high _ _ (h 0)
+    same (suc zero) l = omega (arith, h 0)
+    same (suc (suc zero)) l = omega (arith, h 0)
     same (suc (suc (suc k))) l = absurd (omega arith)
 
 read_none : (t : ℕ) (c : Call) (xs : List ℕ) → encoded c ≡ t ∷ [] → Small c → 1 ≡ whole t → Reads (t ∷ xs) (exactly 1 (t ∷ xs) c)
@@ -149,6 +141,10 @@ reads (suc (suc (suc zero)) ∷ xs) h = rw (by_number 3 xs) (read_none 3 Lit xs 
 reads (suc (suc (suc (suc zero))) ∷ xs) h = rw (by_number 4 xs) (read_none 4 Out xs refl tt refl)
 reads (suc (suc (suc (suc (suc zero)))) ∷ xs) h = rw (by_number 5 xs) (read_none 5 Ways xs refl tt refl)
 reads (suc (suc (suc (suc (suc (suc t))))) ∷ xs) h = rw (by_number (suc (suc (suc (suc (suc (suc t)))))) xs) (read_unknown (suc (suc (suc (suc (suc (suc t)))))) xs (omega arith) refl)
+
+-- the same of what the code read: its bytes are bytes by their type
+pub reads_as : (bs : List ℕ) (r : Result Call Refusal) → ((k : ℕ) → Fits w8 (get_or bs k 0)) → r ≡ decoded bs → Reads bs r
+reads_as bs r fits is = subst (Reads bs) (sym is) (reads bs (λ k. omega (arith, fits k)))
 
 pub of_calls : OfCalls
 of_calls = record { back = decoded_encoded; reads = reads }

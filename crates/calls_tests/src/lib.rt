@@ -6,47 +6,35 @@ mod tests {
     use calls::{Answer, Call, Refusal, read_call, write_answer, write_call};
     use std::test::Fail;
 
-    // What was read: the call's number and its lamps, or 9, the refusal and its place.
-    fn read(bytes: &[u8]) -> [u16; 3] {
-        match read_call(bytes) {
-            Ok(Call::Wire(one, other)) => [0, one, other],
-            Ok(Call::Turn(lamp)) => [1, lamp, 0],
-            Ok(Call::Press(lamp)) => [2, lamp, 0],
-            Ok(Call::Lit) => [3, 0, 0],
-            Ok(Call::Out) => [4, 0, 0],
-            Ok(Call::Ways) => [5, 0, 0],
-            Err(refusal) => [9, refusal.number() as u16, refusal.place()],
-        }
-    }
-
     #[test]
     fn calls_are_read(rt: HostRuntime) {
-        let table: [(&[u8], [u16; 3]); 12] = [
-            (&[0, 1, 0, 2, 0], [0, 1, 2]),
-            (&[0, 255, 3, 0, 4], [0, 1023, 1024]),
-            (&[0, 255, 255, 52, 18], [0, 65535, 4660]),
-            (&[1, 0, 0], [1, 0, 0]),
-            (&[1, 0, 1], [1, 256, 0]),
-            (&[2, 7, 0], [2, 7, 0]),
-            (&[3], [3, 0, 0]),
-            (&[4], [4, 0, 0]),
-            (&[5], [5, 0, 0]),
-            (&[], [9, 1, 0]),
-            (&[6], [9, 1, 0]),
-            (&[255, 0, 0], [9, 1, 0]),
+        let table: [(&[u8], Result<Call, Refusal>); 12] = [
+            (&[0, 1, 0, 2, 0], Ok(Call::Wire(1, 2))),
+            (&[0, 255, 3, 0, 4], Ok(Call::Wire(1023, 1024))),
+            (&[0, 255, 255, 52, 18], Ok(Call::Wire(65535, 4660))),
+            (&[1, 0, 0], Ok(Call::Turn(0))),
+            (&[1, 0, 1], Ok(Call::Turn(256))),
+            (&[2, 7, 0], Ok(Call::Press(7))),
+            (&[3], Ok(Call::Lit)),
+            (&[4], Ok(Call::Out)),
+            (&[5], Ok(Call::Ways)),
+            (&[], Err(Refusal::Unreadable(0))),
+            (&[6], Err(Refusal::Unreadable(0))),
+            (&[255, 0, 0], Err(Refusal::Unreadable(0))),
         ];
-        for (bytes, said) in table {
-            assert_eq!(rt; read(bytes), said);
+        for (bytes, call) in table {
+            assert_eq!(rt; read_call(bytes), call);
         }
     }
 
     // Every number that no call has, alone and with bytes after it.
     #[test]
     fn unknown_calls_are_refused(rt: HostRuntime) {
+        let refused = Err(Refusal::Unreadable(0));
         for number in 6..=255u8 {
-            assert_eq!(rt; read(&[number]), [9, 1, 0]);
-            assert_eq!(rt; read(&[number, 1, 0]), [9, 1, 0]);
-            assert_eq!(rt; read(&[number, 1, 0, 2, 0]), [9, 1, 0]);
+            assert_eq!(rt; read_call(&[number]), refused);
+            assert_eq!(rt; read_call(&[number, 1, 0]), refused);
+            assert_eq!(rt; read_call(&[number, 1, 0, 2, 0]), refused);
         }
     }
 
@@ -63,8 +51,8 @@ mod tests {
         ];
         for (bytes, whole) in table {
             for n in 0..=6 {
-                let place = n.min(whole) as u16;
-                assert_eq!(rt; read(&bytes[..n]) == [9, 1, place], n != whole);
+                let refused = Err(Refusal::Unreadable(n.min(whole) as u16));
+                assert_eq!(rt; read_call(&bytes[..n]) == refused, n != whole);
             }
         }
     }
@@ -74,7 +62,7 @@ mod tests {
         let table: [(u8, u16); 7] = [(0, 5), (1, 3), (2, 3), (3, 1), (4, 1), (5, 1), (6, 0)];
         for (number, place) in table {
             let bytes = vec![in rt.alloc(); number; 1_000_000]?;
-            assert_eq!(rt; read(&bytes), [9, 1, place]);
+            assert_eq!(rt; read_call(&bytes), Err(Refusal::Unreadable(place)));
         }
         Ok(())
     }
@@ -113,7 +101,7 @@ mod tests {
             let mut out = [0; 5];
             let other = 65535 - lamp;
             assert_eq!(rt; write_call(Call::Wire(lamp, other), &mut out), Some(5));
-            assert_eq!(rt; read(&out), [0, lamp, other]);
+            assert_eq!(rt; read_call(&out), Ok(Call::Wire(lamp, other)));
         }
     }
 
@@ -172,12 +160,10 @@ mod tests {
         }
         let mut out = [170; 144];
         assert_eq!(rt; write_answer(Answer::Lit(1024), &row, &mut out), 131);
-        assert_eq!(rt; [out[0], out[1], out[2]], [2, 0, 4]);
-        for i in 0..128 {
-            assert_eq!(rt; out[3 + i] as usize, 16 * (i / 8 % 8) + i % 8 + 1);
+        assert_eq!(rt; &out[..3], [2, 0, 4].as_slice());
+        for (i, byte) in out[3..131].iter().enumerate() {
+            assert_eq!(rt; *byte as usize, 16 * (i / 8 % 8) + i % 8 + 1);
         }
-        for i in 131..144 {
-            assert_eq!(rt; out[i], 170);
-        }
+        assert_eq!(rt; &out[131..], [170; 13].as_slice());
     }
 }

@@ -2,6 +2,7 @@
 -- which is that of q, since A is symmetric and each lamp changes itself. So nothing stands against all on. Assumes nothing.
 use Rattle.std.proofs.Common.{◌≡◌, ℕ, Bool, true, false, not, ◌&&◌, ◌⊎◌, List, [], ◌∷◌, length, sym, refl, ap, ◌∙◌, inl, inr, arith}
 use mathlib.Core.Bool.{false≢true}
+use Rattle.std.proofs.Math.Bool.{and_self}
 use Rattle.std.proofs.lemmas.Bool.{and_right}
 use Rattle.gf2.specs.Rows.{differ, Row, parity, act}
 use Rattle.gf2.specs.Reduction.{Quiet}
@@ -31,10 +32,7 @@ module _ (ws : List Wire) (n : ℕ) (q : Row) where
       turn a b c = grind arith
 
   term_self : (i : ℕ) → term i i ≡ q i
-  term_self i = ap (λ c. q i && (c && q i)) (changes_self ws i) ∙ twice (q i)
-    where
-      twice : (a : Bool) → (a && a) ≡ a
-      twice a = grind arith
+  term_self i = ap (λ c. q i && (c && q i)) (changes_self ws i) ∙ and_self (q i)
 
   quiet_even : Quiet n (table ws) q → parity q n ≡ false
   quiet_even h =

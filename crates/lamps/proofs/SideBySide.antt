@@ -2,6 +2,7 @@
 -- the other board is nothing. Assumes nothing.
 use Rattle.std.proofs.Common.{◌≡◌, ℕ, ◌+◌, ◌<◌, ◌≤◌, Bool, true, false, ◌&&◌, ◌||◌, eqb, ltb, List, [], ◌∷◌, ◌++◌, length, sym, refl, ap, ◌∙◌, ap₂, ⊎_elim, arith}
 use native.Mathlib.Nat.{le_dest}
+use Rattle.std.proofs.Math.Bool.{or_assoc, or-false}
 use Rattle.std.proofs.lemmas.List.{length-append, get_or_append_left, get_or-append-add}
 use Rattle.std.proofs.lemmas.Bool.{ltb-true, ne_eqb, and_parts, and_from, cases_lt}
 use Rattle.std.proofs.lemmas.Bool.Decides.{nat_tests, same_from_decides}
@@ -16,13 +17,10 @@ use Rattle.lamps.proofs.Tables.{puts_table, table_puts}
 wired_append : (vs ws : List Wire) (i j : ℕ) → wired (vs ++ ws) i j ≡ (wired vs i j || wired ws i j)
 unfolding wired
 wired_append [] ws i j = refl
-wired_append (v ∷ vs) ws i j = ap (◌||◌ here) (wired_append vs ws i j) ∙ or_assoc here (wired vs i j) (wired ws i j)
+wired_append (v ∷ vs) ws i j = ap (◌||◌ here) (wired_append vs ws i j) ∙ sym (or_assoc here (wired vs i j) (wired ws i j))
   where
     here : Bool
     here = joins v.one v.other i j
-
-    or_assoc : (a b c : Bool) → (a || (b || c)) ≡ ((a || b) || c)
-    or_assoc a b c = grind arith
 
 no_wire : (a b c d e : Bool) → a ≡ false → d ≡ false → e ≡ false → (((a && b) || (c && d)) || e) ≡ false
 no_wire a b c d e ha hd he = grind arith
@@ -65,11 +63,7 @@ joint m vs ws = vs ++ shifted m ws
 module _ (m : ℕ) (vs ws : List Wire) (inside : all_in m vs ≡ true) where
   changes_left : (i j : ℕ) → i < m → changes (joint m vs ws) i j ≡ changes vs i j
   changes_left i j h =
-      ap (◌||◌ (eqb i j)) (wired_append vs (shifted m ws) i j ∙ ap (◌||◌ (wired vs i j)) (wired_shifted_below m ws i j h) ∙ or_false (wired vs i j))
-    where
-      or_false : (b : Bool) → (b || false) ≡ b
-      or_false true = refl
-      or_false false = refl
+      ap (◌||◌ (eqb i j)) (wired_append vs (shifted m ws) i j ∙ ap (◌||◌ (wired vs i j)) (wired_shifted_below m ws i j h) ∙ or-false (wired vs i j))
 
   changes_right : (i j : ℕ) → changes (joint m vs ws) (m + i) (m + j) ≡ changes ws i j
   changes_right i j =

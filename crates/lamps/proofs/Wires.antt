@@ -1,5 +1,6 @@
 -- Which lamps wires join, and what is joined after a wire came or went. Assumes nothing.
 use Rattle.std.proofs.Common.{◌≡◌, ℕ, Bool, true, false, not, ◌&&◌, ◌||◌, eqb, ◌≢◌, List, [], ◌∷◌, refl, ap, ◌∙◌, ap₂, arith}
+use Rattle.std.proofs.Math.Bool.{or_comm}
 use Rattle.std.proofs.lemmas.Bool.{eq-eqb}
 use Rattle.std.proofs.lemmas.Bool.Decides.{nat_tests}
 use Rattle.gf2.specs.Rows.{pick, differ}
@@ -12,9 +13,6 @@ eqb_sym i j = grind (arith, nat_tests)
 
 pub joins_sym : (a b i j : ℕ) → joins a b i j ≡ joins a b j i
 joins_sym a b i j = or_comm (eqb a i && eqb b j) (eqb a j && eqb b i)
-  where
-    or_comm : (x y : Bool) → (x || y) ≡ (y || x)
-    or_comm x y = grind arith
 
 pub wired_sym : (ws : List Wire) (i j : ℕ) → wired ws i j ≡ wired ws j i
 unfolding wired

@@ -1,20 +1,16 @@
-use Rattle.std.proofs.Common.{◌≡◌, Err, sym, subst, arith, rules}
-use Rattle.calls.specs.declared.Refusal.TheVariants.{Unreadable}
+use Rattle.std.proofs.Common.{Err, rules}
 use Rattle.calls.specs.Reading.{decoded}
-use Rattle.calls.specs.Laws.{Reads, AllBytes}
-use Rattle.calls.proofs.Readings.{reads}
+use Rattle.calls.proofs.Readings.{reads_as}
 use Rattle.calls.proofs.read_call.Goals as goal
 
-pub returns-in_default : goal.returns-in_default
+pub returns-in-3-to-5-clause-reads : goal.returns-in-3-to-5-clause-reads
 unfolding decoded
-returns-in_default c =
-    let is : Err (Unreadable 0) ≡ decoded c.args.bytes.now = search rules in
-    let bytes : AllBytes c.args.bytes.now = λ k. omega (arith, c.type_inv.bytes k) in
-    record { value = is; reads = subst (Reads c.args.bytes.now) (sym is) (reads _ bytes) }
+returns-in-3-to-5-clause-reads c = reads_as c.args.bytes.now (Err c.ceased.result) c.type_inv.bytes (search rules)
 
-pub returns : goal.returns
+pub returns-in-1-2-clause-reads : goal.returns-in-1-2-clause-reads
 unfolding decoded
-returns c =
-    let is : c.read_numbered.result ≡ decoded c.args.bytes.now = search rules in
-    let bytes : AllBytes c.args.bytes.now = λ k. omega (arith, c.type_inv.bytes k) in
-    record { value = is; reads = subst (Reads c.args.bytes.now) (sym is) (reads _ bytes) }
+returns-in-1-2-clause-reads c = reads_as c.args.bytes.now (Err c.ceased-in-1-2.result) c.type_inv.bytes (search rules)
+
+pub returns-in-0-2-clause-reads : goal.returns-in-0-2-clause-reads
+unfolding decoded
+returns-in-0-2-clause-reads c = reads_as c.args.bytes.now (Err c.ceased-in-0-2.result) c.type_inv.bytes (search rules)
