@@ -10,7 +10,7 @@ ghost use Rattle.calls.specs.Saying.{number_of, place_of, said, written, lamps_o
 ghost use Rattle.calls.specs.Laws.{Reads, OfCalls, OfAnswers};
 
 // What is asked of the desk. In bytes: the number of the call, from 0 in this order, then its lamps.
-#[derive(Clone, Copy)]
+#[derive(Clone, Copy, PartialEq, Eq, Debug)]
 pub enum Call {
     Wire(u16, u16),
     Turn(u16),
@@ -22,7 +22,7 @@ pub enum Call {
 
 // Why it is turned away: the bytes cease to be a call at a place, a wire would join a lamp to itself,
 // a board can't be opened with so many lamps, or in so little memory, or there is no such lamp.
-#[derive(Clone, Copy)]
+#[derive(Clone, Copy, PartialEq, Eq, Debug)]
 pub enum Refusal {
     Unreadable(u16),
     Itself,

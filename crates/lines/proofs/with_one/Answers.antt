@@ -1,14 +1,14 @@
-use Rattle.lines.proofs.Forms.{one_then}
+use Rattle.lines.proofs.Forms.{one_then, stopped}
 use Rattle.lines.proofs.with_one.Goals as goal
 
-pub returns-in-Err : goal.returns-in-Err
-returns-in-Err c = rw (one_then, ← c.in-Err.ensures)
+pub returns-in_err-at : goal.returns-in_err-at
+returns-in_err-at c = rw (one_then, ← c.in_err-at.ensures) (stopped _ _ c.from_residual.ensures)
 
-pub returns-in-Err-number : goal.returns-in-Err-number
-returns-in-Err-number c = rw (one_then, ← c.in-Ok.ensures, ← c.in-Err-number.ensures)
+pub returns-in_err-n : goal.returns-in_err-n
+returns-in_err-n c = rw (one_then, ← c.in_ok-at.ensures, ← c.in_err-n.ensures) (stopped _ _ c.from_residual-in_err-n.ensures)
 
-pub returns-in-Err-end : goal.returns-in-Err-end
-returns-in-Err-end c = rw (one_then, ← c.in-Ok.ensures, ← c.in-Ok-number.ensures, ← c.in-Err-end.ensures)
+pub returns-in_err-end : goal.returns-in_err-end
+returns-in_err-end c = rw (one_then, ← c.in_ok-at.ensures, ← c.in_ok-n.ensures, ← c.in_err-end.ensures) (stopped _ _ c.from_residual-in_err-end.ensures)
 
 pub returns : goal.returns
-returns c = rw (one_then, ← c.in-Ok.ensures, ← c.in-Ok-number.ensures, ← c.in-Ok-end.ensures)
+returns c = rw (one_then, ← c.in_ok-at.ensures, ← c.in_ok-n.ensures, ← c.in_ok-end.ensures)
