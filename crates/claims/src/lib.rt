@@ -11,7 +11,7 @@ ghost use Rattle.claims.specs.Checked.{PressesChecked, NeverChecked};
 use wires::Board;
 
 // What a claim is found to be.
-#[derive(Clone, Copy)]
+#[derive(Clone, Copy, PartialEq, Eq, Debug)]
 pub enum Verdict {
     // it is right
     Right,
