@@ -82,9 +82,6 @@ pub bits_none : {X : Type 0} (L : List ℕ) (K : ℕ → Reader X) (p n : ℕ) �
 unfolding bits
 bits_none L K p n e = rw e
 
-pub binary_below : (L : List ℕ) (p : ℕ) → true ≡ binary (get_or L p 0) → p < length L
-binary_below L p e = elim (cases_lt p (length L)) [ inl h ↦ h | inr h ↦ absurd (true≢false (e ∙ ap binary (get_or_past L p 0 h))) ]
-
 pub binary_small : (b : ℕ) → true ≡ binary b → b < 50
 binary_small b e = grind (arith, nat_tests)
 

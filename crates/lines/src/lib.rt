@@ -94,6 +94,7 @@ fn end(line: &[u8], at: usize) -> Result<(), usize>
 }
 
 // That the line is the keyword alone.
+#[tactic(auto, using(crate::proofs::Forms::alone_then, crate::proofs::Forms::ends_then, crate::proofs::Forms::stopped))]
 fn bare(line: &[u8], keyword: &[u8]) -> Result<(), usize>
     ensures { result ≡ alone keyword.now tt 0 line.now }
 {
@@ -102,6 +103,7 @@ fn bare(line: &[u8], keyword: &[u8]) -> Result<(), usize>
 }
 
 // The number of a line that is the keyword and a number.
+#[tactic(auto, using(crate::proofs::Forms::one_then, crate::proofs::Forms::stopped))]
 fn with_one(line: &[u8], keyword: &[u8]) -> Result<u16, usize>
     ensures { result ≡ one keyword.now (λ n. n) 0 line.now }
 {
@@ -112,6 +114,7 @@ fn with_one(line: &[u8], keyword: &[u8]) -> Result<u16, usize>
 }
 
 // The numbers of a line that is the keyword and two numbers.
+#[tactic(auto, using(crate::proofs::Forms::two_then, crate::proofs::Forms::stopped))]
 fn with_two(line: &[u8], keyword: &[u8]) -> Result<(u16, u16), usize>
     ensures { result ≡ two keyword.now pair 0 line.now }
 {
@@ -147,6 +150,7 @@ fn digits(line: &[u8], at: usize, n: u16) -> Result<(u64, usize), usize>
 }
 
 // The set of a line that is the keyword and a digit for each of `n` lamps.
+#[tactic(auto, using(crate::proofs::Forms::set_then, crate::proofs::Forms::stopped))]
 fn with_set(line: &[u8], keyword: &[u8], n: u16) -> Result<u64, usize>
     requires { n ≤ 64 }
     ensures { result ≡ set n keyword.now (λ v. v) 0 line.now }
@@ -172,6 +176,7 @@ fn is_served(n: u16) -> bool
 }
 
 // The first of the readings that comes to the end of its line, or the furthest place to which one comes.
+#[tactic(auto, using(crate::proofs::Steps::read_found, crate::proofs::Steps::read_far))]
 fn furthest<X: Copy>(readings: &[Result<X, usize>]) -> Result<X, usize>
     ensures { result ≡ fold further (Err 0) readings.now }
 {

@@ -1,6 +1,6 @@
 use Rattle.std.proofs.Common.{◌-◌, arith}
 use Rattle.lines.specs.Readers.{found}
-use Rattle.lines.proofs.Steps.{bits_none, bits_stops, binary_below, binary_small, found_small}
+use Rattle.lines.proofs.Steps.{bits_none, bits_stops, binary_small, found_small}
 use Rattle.lines.proofs.Forms.{bits_from, stopped}
 use Rattle.lines.proofs.+digits.Goals as goal
 
@@ -9,9 +9,6 @@ returns-then-n-eq0 t c = bits_none _ found _ _ c.if-n-eq0.true
 
 pub returns-then-not-is_binary : goal.returns-then-not-is_binary
 returns-then-not-is_binary t c = bits_stops _ found _ (c.args.n - 1) _ (omega arith) (rw c.byte_at-byte.ensures at c.if-not-is_binary.ensures)
-
-pub overflow_add-at : goal.overflow_add-at
-overflow_add-at t c = let below = binary_below c.args.line.now c.args.at (rw c.byte_at-byte.ensures at c.if-not-is_binary.ensures) in omega arith
 
 pub returns-in_err-later : goal.returns-in_err-later
 returns-in_err-later t c =
