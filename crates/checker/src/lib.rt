@@ -18,6 +18,9 @@ use small::SmallBoard;
 use std::alloc::{AllocError, Global};
 use std::fmt::Write;
 
+// A line that needs a board can't be read where there is none.
+const NO_BOARD: Refusal = Refusal::Unreadable(0);
+
 // The board that there is, or none yet.
 #[derive(Drop)]
 pub struct Checker {
@@ -46,24 +49,29 @@ impl Checker {
     fn take(&mut self, claim: Claim) -> Result<Option<Verdict>, Refusal>
         ensures { (b : Option Wall) → Held self.old.board b → Answered b (Ok claim) (found_or result) self.new.board }
     {
-        if let Claim::Nothing = claim {
-            return Ok(None);
-        }
-        if let Claim::Lamps(n) = claim {
-            self.board = Some(SmallBoard::new(n)?);
-            return Ok(None);
-        }
-        let Some(board) = &mut self.board else {
-            return Err(Refusal::Unreadable(0));
-        };
         match claim {
-            Claim::Wire(i, j) => board.wire(i, j)?,
-            Claim::Turn(i) => board.turn(i)?,
-            Claim::Press(presses) => return Ok(Some(board.check_presses(presses))),
-            Claim::Never(set) => return Ok(Some(board.check_never(set))),
-            Claim::Nothing | Claim::Lamps(_) => {}
+            Claim::Nothing => Ok(None),
+            Claim::Lamps(n) => {
+                self.board = Some(SmallBoard::new(n)?);
+                Ok(None)
+            }
+            Claim::Wire(i, j) => {
+                self.board.as_mut().ok_or(NO_BOARD)?.wire(i, j)?;
+                Ok(None)
+            }
+            Claim::Turn(i) => {
+                self.board.as_mut().ok_or(NO_BOARD)?.turn(i)?;
+                Ok(None)
+            }
+            Claim::Press(presses) => {
+                let board = self.board.as_ref().ok_or(NO_BOARD)?;
+                Ok(Some(board.check_presses(presses)))
+            }
+            Claim::Never(set) => {
+                let board = self.board.as_ref().ok_or(NO_BOARD)?;
+                Ok(Some(board.check_never(set)))
+            }
         }
-        Ok(None)
     }
 
     // Reads a line, and does what it says.

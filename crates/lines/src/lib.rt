@@ -33,6 +33,8 @@ pub enum Claim {
     Nothing,
 }
 
+// A line and a place of it stay two parameters in what follows: a struct of the two is no plainer, since clauses and callers name each place by its number.
+
 // Whether the byte stands at a place of the line.
 fn has(line: &[u8], at: usize, byte: u8) -> bool
     ensures { result ≡ holds line.now at byte }

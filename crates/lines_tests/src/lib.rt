@@ -4,7 +4,7 @@
 #[cfg(test)]
 mod tests {
     use calls::Call;
-    use lines::{Claim, Line, read_claim, read_line};
+    use lines::{Claim, Line, Refusal, read_claim, read_line};
 
     #[test]
     fn lines_are_read(rt: HostRuntime) {
@@ -72,6 +72,19 @@ mod tests {
         ];
         for (line, n, said) in table {
             assert_eq!(rt; read_claim(line, n), said);
+        }
+    }
+
+    #[test]
+    fn refusals_are_printed(rt: HostRuntime) {
+        let table: [(Refusal, &str); 3] = [
+            (Refusal::Unreadable(70000), "refused 1 at 70000"),
+            (Refusal::Call(calls::Refusal::ShortMemory), "refused 3 at 1"),
+            (Refusal::from(calls::Refusal::Unreadable(7)), "refused 1 at 7"),
+        ];
+        for (refusal, said) in table {
+            let text = refusal.to_string(rt.alloc()).expect(&rt, "memory");
+            assert_eq!(rt; text.as_str(), said);
         }
     }
 }
