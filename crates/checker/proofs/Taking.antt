@@ -1,6 +1,6 @@
 -- A line that changes the board, or is refused; a claim that is checked. Assumes nothing.
-use Rattle.std.proofs.Common.{◌≡◌, ℕ, suc, ◌/◌, ◌%◌, ◌<◌, ◌≤◌, true, false, not, eqb, ◌≢◌, List, [], ◌∷◌, ◌++◌, length, get_or, take, set, Some, None, Ok, Err, MatchResult, Option, Result, sym, refl, ap, ◌∙◌, subst, ap₂, arith}
-use Rattle.std.proofs.lemmas.Bool.{eq-eqb, ne_eqb}
+use Rattle.std.proofs.Common.{◌≡◌, ℕ, suc, ◌/◌, ◌%◌, ◌<◌, ◌≤◌, true, false, not, eqb, ◌≢◌, List, [], ◌∷◌, ◌++◌, length, get_or, take, set, Some, None, Ok, Err, MatchResult, Option, Result, sym, refl, ap, ◌∙◌, subst, ap₂, inl, inr, arith}
+use Rattle.std.proofs.lemmas.Bool.{cases_lt, eq-eqb, ne_eqb}
 use Rattle.std.proofs.lemmas.List.{length-take-le, take_all, take-append-le}
 use Rattle.gf2.specs.Rows.{pick}
 use Rattle.lamps.specs.Lamps.{Lamps, Wire, at, listed}
@@ -18,8 +18,10 @@ use Rattle.lines.specs.declared.refusal.Refusal.{Refusal}
 use Rattle.lines.specs.declared.refusal.Refusal.TheVariants.{Call}
 use Rattle.lines.specs.Lines.{claim_of}
 use Rattle.lines.specs.Printed.{set_in}
+use Rattle.lines.specs.Texts.{refusal_line}
 use Rattle.checker.specs.Replies.{lamps_in, said, numbered, refusal, Holding, Called}
 use Rattle.checker.specs.Held.{lamps_held, Held}
+use Rattle.checker.specs.Texts.{line_for}
 use Rattle.checker.specs.declared.small.SmallBoard.{SmallBoard}
 use Rattle.checker.specs.declared.reply.Reply.TheVariants.{Nothing, Refused}
 
@@ -100,3 +102,10 @@ read_as (Err p) claim m = absurd m
 pub says : (c : Option SmallBoard) (b : Option Wall) (n : ℕ) (line : List ℕ) (r : Result Claim ℕ) (claim : Claim) → Held c b → n ≡ lamps_held c → r ≡ claim_of n line
     → MatchResult r (λ x. ◌≡◌ {A = Result Claim Refusal} (Ok claim) (Ok x)) (λ p. ⊥) → Ok claim ≡ said b line
 says c b n line r claim h e k m = sym (read_as r claim m) ∙ k ∙ ap (λ l. claim_of l line) (e ∙ lamps_as c b h)
+
+-- a call that is refused by number k is answered by the line of number k at 0
+pub refusal_printed : (k : ℕ) → 2 ≤ k → k ≤ 4 → line_for (refusal k) ≡ refusal_line k 0
+refusal_printed k l m = elim (cases_lt k 3) [
+  | inl two ↦ let e : k ≡ 2 = omega arith in rw e
+  | inr more ↦ elim (cases_lt k 4) [ inl three ↦ let e : k ≡ 3 = omega arith in rw e | inr four ↦ let e : k ≡ 4 = omega arith in rw e ]
+]
