@@ -80,7 +80,10 @@ mod tests {
         let table: [(Refusal, &str); 3] = [
             (Refusal::Unreadable(70000), "refused 1 at 70000"),
             (Refusal::Call(calls::Refusal::ShortMemory), "refused 3 at 1"),
-            (Refusal::from(calls::Refusal::Unreadable(7)), "refused 1 at 7"),
+            (
+                Refusal::from(calls::Refusal::Unreadable(7)),
+                "refused 1 at 7",
+            ),
         ];
         for (refusal, said) in table {
             let text = refusal.to_string(rt.alloc()).expect(&rt, "memory");
