@@ -3,10 +3,11 @@ use Rattle.std.specs.Prelude.{◌≡◌, ℕ, List, [], ◌∷◌, ◌++◌, cod
 use Rattle.lamps.specs.Calls.{Board as Wall}
 use Rattle.claims.specs.declared.Verdict.{Verdict}
 use Rattle.claims.specs.declared.Verdict.TheVariants.{Right, Lamp, Even}
+use Rattle.lines.specs.Refusals.{number_of, place_of}
 use Rattle.lines.specs.Texts.{refusal_line}
 use Rattle.checker.specs.Replies.{said, Replies, next}
-use Rattle.checker.specs.declared.Reply.{Reply}
-use Rattle.checker.specs.declared.Reply.TheVariants.{Nothing, Refused, Found}
+use Rattle.checker.specs.declared.reply.Reply.{Reply}
+use Rattle.checker.specs.declared.reply.Reply.TheVariants.{Nothing, Refused, Found}
 
 -- what a claim is found to be, as a line; a reply as a line, or as nothing
 abbrev pub line_found : Verdict → List ℕ
@@ -16,7 +17,7 @@ line_found Even = codes "even\n"
 
 abbrev pub line_for : Reply → List ℕ
 line_for Nothing = []
-line_for (Refused k p) = refusal_line k p
+line_for (Refused why) = refusal_line (number_of why) (place_of why)
 line_for (Found v) = line_found v
 
 -- `out` answers the lines one after another, each rightly on the board that those before it left

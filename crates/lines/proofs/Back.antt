@@ -12,6 +12,7 @@ use Rattle.lines.specs.Readers.{Reader, ends, word, digit, longer, goes_on, digi
 use Rattle.lines.specs.Lines.{silent, alone, one, two, set, line_of, claim_of, serves}
 use Rattle.lines.specs.Printed.{shown, set_in, printed, printed_claim}
 use Rattle.lines.specs.Laws.{Fits, ClaimFits}
+use Rattle.calls.specs.declared.Call.TheVariants as calls
 use Rattle.lines.specs.declared.Line.{Line}
 use Rattle.lines.specs.declared.Line.TheVariants as line
 use Rattle.lines.specs.declared.Claim.{Claim}
@@ -86,12 +87,12 @@ pub line_back : (l : Line) → Fits l → line_of (printed l) ≡ Ok l
 unfolding line_of silent alone one two ends word further
 line_back (line.Lamps n) h = rw (says_first 108, one_reads line.Lamps n 6 h)
 line_back (line.Grid i j) h = rw (says_first 103, two_reads line.Grid i j 5 h.0 h.1)
-line_back (line.Wire i j) h = rw (says_first 119, two_reads line.Wire i j 5 h.0 h.1)
-line_back (line.Turn n) h = rw (says_first 116, one_reads line.Turn n 5 h)
-line_back (line.Press n) h = rw (says_first 112, one_reads line.Press n 6 h)
-line_back line.Lit h = refl
-line_back line.Out h = refl
-line_back line.Ways h = refl
+line_back (line.Call (calls.Wire i j)) h = rw (says_first 119, two_reads (λ i j. line.Call (calls.Wire i j)) i j 5 h.0 h.1)
+line_back (line.Call (calls.Turn n)) h = rw (says_first 116, one_reads (λ i. line.Call (calls.Turn i)) n 5 h)
+line_back (line.Call (calls.Press n)) h = rw (says_first 112, one_reads (λ i. line.Call (calls.Press i)) n 6 h)
+line_back (line.Call calls.Lit) h = refl
+line_back (line.Call calls.Out) h = refl
+line_back (line.Call calls.Ways) h = refl
 line_back line.Nothing h = refl
 
 pub claim_back : (n : ℕ) (c : Claim) → ClaimFits n c → claim_of n (printed_claim n c) ≡ Ok c

@@ -1,8 +1,9 @@
 -- A text is cut into its lines, byte by byte. Assumes nothing.
-use Rattle.std.proofs.Common.{◌≡◌, ℕ, ◌+◌, ◌-◌, ◌<◌, ◌≤◌, cond, eqb, ◌≢◌, List, [], ◌∷◌, ◌++◌, length, get_or, take, drop, sym, ap, ◌∙◌}
-use Rattle.std.proofs.lemmas.List.{drop_more, drop_all}
+use Rattle.std.proofs.Common.{◌≡◌, ℕ, ◌+◌, ◌-◌, ◌<◌, ◌≤◌, Bool, true, false, cond, eqb, ◌≢◌, List, [], ◌∷◌, ◌++◌, length, get_or, take, drop, refl, sym, ap, ap₂, append_assoc, ◌∙◌}
+use Rattle.std.proofs.lemmas.List.{append-nil, drop_more, drop_all}
 use Rattle.std.proofs.lemmas.Bool.{eq-eqb, ne_eqb}
 use Rattle.std.proofs.lemmas.List.Edits.{between_none, between_more}
+use Rattle.std.specs.List.{slice_split, onto_first}
 use Rattle.lines.specs.Texts.{lines_from}
 
 -- the bytes of a text from one place to another
@@ -36,3 +37,39 @@ module _ (text : List ℕ) (start end : ℕ) where
   pub line_last : length text ≤ end → lines_from (part text start end) (drop end text) ≡ part text start end ∷ []
   unfolding lines_from
   line_last all = ap (lines_from (part text start end)) (drop_all end text all)
+
+-- the same as the parts between the bytes 10
+abbrev pub cut : List ℕ → List (List ℕ)
+cut = slice_split (λ b. eqb b 10)
+
+front : List ℕ → List (List ℕ) → List (List ℕ)
+front line [] = line ∷ []
+front line (part ∷ parts) = (line ++ part) ∷ parts
+
+front_none : (bs : List ℕ) → front [] (cut bs) ≡ cut bs
+unfolding front
+front_none [] = refl
+front_none (b ∷ bs) = go (eqb b 10) (cut bs)
+  where
+    go : (t : Bool) (ls : List (List ℕ)) → front [] (cond t ([] ∷ ls) (onto_first b ls)) ≡ cond t ([] ∷ ls) (onto_first b ls)
+    go true ls = refl
+    go false [] = refl
+    go false (l ∷ ls) = refl
+
+front_more : (line : List ℕ) (b : ℕ) (ls : List (List ℕ)) → front (line ++ (b ∷ [])) ls ≡ front line (onto_first b ls)
+unfolding front
+front_more line b [] = refl
+front_more line b (l ∷ ls) = ap (λ x. x ∷ ls) (append_assoc line (b ∷ []) l)
+
+front_lines : (line bs : List ℕ) → lines_from line bs ≡ front line (cut bs)
+unfolding lines_from front
+front_lines line [] = ap (λ l. l ∷ []) (sym (append-nil line))
+front_lines line (b ∷ bs) = go (eqb b 10) (front_lines [] bs) (front_lines (line ++ (b ∷ [])) bs)
+  where
+    go : (t : Bool) → lines_from [] bs ≡ front [] (cut bs) → lines_from (line ++ (b ∷ [])) bs ≡ front (line ++ (b ∷ [])) (cut bs)
+        → cond t (line ∷ lines_from [] bs) (lines_from (line ++ (b ∷ [])) bs) ≡ front line (cond t ([] ∷ cut bs) (onto_first b (cut bs)))
+    go true ended on = ap₂ (λ l ls. l ∷ ls) (sym (append-nil line)) (ended ∙ front_none bs)
+    go false ended on = on ∙ front_more line b (cut bs)
+
+pub lines_split : (text : List ℕ) → lines_from [] text ≡ cut text
+lines_split text = front_lines [] text ∙ front_none text

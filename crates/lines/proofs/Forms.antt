@@ -1,5 +1,5 @@
 -- What follows a word or a number is read from the place where that ends; and so the forms of a line, step by step. Assumes nothing.
-use Rattle.std.proofs.Common.{◌≡◌, ℕ, zero, suc, ◌+◌, ◌-◌, ◌*◌, Bool, true, false, cond, eqb, List, [], ◌∷◌, get_or, drop, Ok, Err, codes, Result, sym, refl, ap, ◌∙◌, add-one}
+use Rattle.std.proofs.Common.{◌≡◌, ℕ, zero, suc, ◌+◌, ◌-◌, ◌*◌, Bool, true, false, cond, eqb, List, [], ◌∷◌, get_or, drop, MatchResult, IsOkAnd, IsErr, IsErrAnd, Ok, Err, codes, Result, sym, refl, ap, ◌∙◌, add-one}
 use mathlib.Core.Path.{fun_ext}
 use Rattle.std.proofs.lemmas.List.{drop-drop}
 use Rattle.lines.specs.Readers.{Reader, here, pair, found, ends, word, digit, longer, goes_on, digits, number, binary, bits}
@@ -10,6 +10,11 @@ use Rattle.lines.specs.Lines.{alone, one, two, set}
 abbrev pub then : {A B : Type 0} → Result A ℕ → (A → Result B ℕ) → Result B ℕ
 then (Ok x) k = k x
 then (Err p) k = Err p
+
+-- what `?` gives back where it stops
+pub stopped : {X : Type 0} (r : Result X ℕ) (p : ℕ) → IsErr r × IsErrAnd r (λ q. q ≡ p) → r ≡ Err p
+stopped (Ok x) p h = absurd h.1
+stopped (Err q) p h = ap Err h.1
 
 drop_next : (L : List ℕ) (p b : ℕ) (bs : List ℕ) → drop p L ≡ b ∷ bs → drop (suc p) L ≡ bs
 drop_next L p b bs e = rw (← add-one p, ← drop-drop 1 p L, e)
@@ -89,16 +94,29 @@ module _ {X : Type 0} (L : List ℕ) where
   set_then n w f =
       word_then w _ 0 L refl ∙ then_same (word w here 0 L) (λ q. bits_then L n _ q (drop q L) refl ∙ then_same (bits n found q (drop q L)) (λ r. ends_then (f r.0) r.1 (drop r.1 L)))
 
--- what a form is read as, by its numbers
-module _ {X : Type 0} (L w : List ℕ) where
-  pub alone_is : (x : X) (r : Result (Unit {0}) ℕ) → r ≡ alone w tt 0 L → alone w x 0 L ≡ then r (λ _. Ok x)
-  alone_is x r e = rw (e, alone_then L w x, alone_then L w (tt {0})) (simp then_then)
+-- what a form is read as, where a closure makes it of the numbers
+module _ {X : Type 0} (L w : List ℕ) (s : Result X ℕ) where
+  mapped : {A : Type 0} {P : A → X → Type 0} (f : A → X) (r : Result A ℕ) → MatchResult r (λ x. IsOkAnd s (P x)) (λ p. s ≡ Err p) → ((x : A) (y : X) → P x y → y ≡ f x)
+      → s ≡ then r (λ x. Ok (f x))
+  mapped {P = P} f (Ok x) m makes = made s m
+    where
+      made : (s : Result X ℕ) → IsOkAnd s (P x) → s ≡ Ok (f x)
+      made (Ok y) h = ap Ok (makes x y h)
+      made (Err p) h = absurd h
+  mapped f (Err p) m makes = m
 
-  pub one_is : (f : ℕ → X) (r : Result ℕ ℕ) → r ≡ one w (λ n. n) 0 L → one w f 0 L ≡ then r (λ n. Ok (f n))
-  one_is f r e = rw (e, one_then L w f, one_then L w (λ n. n)) (simp then_then)
+  pub alone_read : {P : Unit {0} → X → Type 0} (x : X) (r : Result (Unit {0}) ℕ) → r ≡ alone w tt 0 L
+      → MatchResult r (λ u. IsOkAnd s (P u)) (λ p. s ≡ Err p) → ((u : Unit {0}) (y : X) → P u y → y ≡ x) → s ≡ alone w x 0 L
+  alone_read x r e m makes = mapped (λ _. x) r m makes ∙ sym (rw (e, alone_then L w x, alone_then L w (tt {0})) (simp then_then))
 
-  pub two_is : (f : ℕ → ℕ → X) (r : Result (ℕ × ℕ) ℕ) → r ≡ two w pair 0 L → two w f 0 L ≡ then r (λ n. Ok (f n.0 n.1))
-  two_is f r e = rw (e, two_then L w f, two_then L w pair) (simp then_then)
+  pub one_read : {P : ℕ → X → Type 0} (f : ℕ → X) (r : Result ℕ ℕ) → r ≡ one w (λ n. n) 0 L
+      → MatchResult r (λ n. IsOkAnd s (P n)) (λ p. s ≡ Err p) → ((n : ℕ) (y : X) → P n y → y ≡ f n) → s ≡ one w f 0 L
+  one_read f r e m makes = mapped f r m makes ∙ sym (rw (e, one_then L w f, one_then L w (λ n. n)) (simp then_then))
 
-  pub set_is : (n : ℕ) (f : ℕ → X) (r : Result ℕ ℕ) → r ≡ set n w (λ v. v) 0 L → set n w f 0 L ≡ then r (λ v. Ok (f v))
-  set_is n f r e = rw (e, set_then L n w f, set_then L n w (λ v. v)) (simp then_then)
+  pub two_read : {P : ℕ × ℕ → X → Type 0} (f : ℕ → ℕ → X) (r : Result (ℕ × ℕ) ℕ) → r ≡ two w pair 0 L
+      → MatchResult r (λ n. IsOkAnd s (P n)) (λ p. s ≡ Err p) → ((n : ℕ × ℕ) (y : X) → P n y → y ≡ f n.0 n.1) → s ≡ two w f 0 L
+  two_read f r e m makes = mapped (λ n. f n.0 n.1) r m makes ∙ sym (rw (e, two_then L w f, two_then L w pair) (simp then_then))
+
+  pub set_read : {P : ℕ → X → Type 0} (n : ℕ) (f : ℕ → X) (r : Result ℕ ℕ) → r ≡ set n w (λ v. v) 0 L
+      → MatchResult r (λ v. IsOkAnd s (P v)) (λ p. s ≡ Err p) → ((v : ℕ) (y : X) → P v y → y ≡ f v) → s ≡ set n w f 0 L
+  set_read n f r e m makes = mapped f r m makes ∙ sym (rw (e, set_then L n w f, set_then L n w (λ v. v)) (simp then_then))

@@ -1,9 +1,12 @@
 -- A reader at a place of a line, one byte on. Assumes nothing.
-use Rattle.std.proofs.Common.{◌≡◌, ℕ, zero, suc, ◌+◌, ◌-◌, ◌*◌, ◌^◌, ◌<◌, ◌≤◌, Bool, true, false, cond, List, [], ◌∷◌, length, get_or, drop, Ok, Err, sym, refl, ap, ◌∙◌, inl, inr, add-zero, pow-suc, add-one, arith, pow_mono}
-use Rattle.std.proofs.lemmas.List.{at_drop_all, drop_all, drop_more, get_or-drop, get_or_past}
+use Rattle.std.proofs.Common.{◌≡◌, ℕ, zero, suc, ◌+◌, ◌-◌, ◌*◌, ◌^◌, ◌<◌, ◌≤◌, max, Bool, true, false, cond, List, [], ◌∷◌, length, get_or, take, drop, Some, None, Option, Ok, Err, Result, sym, refl, ap, ◌∙◌, inl, inr, add-zero, pow-suc, add-one, arith, pow_mono}
+use Rattle.std.proofs.lemmas.List.{at_drop_all, drop_all, drop_more, get_or-drop, get_or_past, length-drop, take_all}
 use Rattle.std.proofs.lemmas.Bool.{lt-ltb, le-ltb, ltb-true, and_parts, cases_lt, true≢false}
 use Rattle.std.proofs.lemmas.Bool.Decides.{nat_tests}
-use Rattle.lines.specs.Readers.{Reader, found, has, word, digit, longer, goes_on, digits, number, binary, bits}
+use Rattle.std.specs.List.{fold}
+use Rattle.std.specs.Option.{is_some}
+use Rattle.std.specs.Ordering.{ord_max, nat_cmp}
+use Rattle.lines.specs.Readers.{Reader, found, has, word, digit, longer, goes_on, next, digits, number, binary, bits, further}
 
 pub never : {X : Type 0} (x : X) (p : ℕ) → Ok x ≡ Err p → ⊥
 never x p e = let z : ◌≡◌ {A = ℕ} 0 1 = cc in omega arith
@@ -79,9 +82,6 @@ pub bits_none : {X : Type 0} (L : List ℕ) (K : ℕ → Reader X) (p n : ℕ) �
 unfolding bits
 bits_none L K p n e = rw e
 
-pub binary_below : (L : List ℕ) (p : ℕ) → true ≡ binary (get_or L p 0) → p < length L
-binary_below L p e = elim (cases_lt p (length L)) [ inl h ↦ h | inr h ↦ absurd (true≢false (e ∙ ap binary (get_or_past L p 0 h))) ]
-
 pub binary_small : (b : ℕ) → true ≡ binary b → b < 50
 binary_small b e = grind (arith, nat_tests)
 
@@ -107,3 +107,77 @@ found_small n p bs v q h e =
     let same : ◌≡◌ {A = ℕ × ℕ} (v, q) (w, r) = cc in
     let first = ap (λ x. x.0) same in
     let top : 2 ^ n ≤ 2 ^ 63 = pow_mono {i = n} {j = 63} (omega arith) in omega arith
+
+-- the number with one more digit, or none
+pub next_is : (v b : ℕ) → goes_on v b ≡ is_some (next v b)
+next_is v b = go (goes_on v b)
+  where
+    go : (t : Bool) → t ≡ is_some (cond t (Some (longer v b)) None)
+    go true = refl
+    go false = refl
+
+pub first_is : (L : List ℕ) (p b : ℕ) (r : Option ℕ) (t : Bool) → b ≡ get_or L p 0 → r ≡ next 0 b → is_some r ≡ t → t ≡ goes_on 0 (get_or L p 0)
+first_is L p b r t e h k = sym k ∙ ap is_some h ∙ sym (next_is 0 b) ∙ ap (goes_on 0) e
+
+next_some : (t : Bool) (v m : ℕ) → cond t (Some v) None ≡ Some m → (true ≡ t) × (m ≡ v)
+next_some true v m e = (refl, cc)
+next_some false v m e = absurd (cc)
+
+next_none : (t : Bool) (v : ℕ) → cond t (Some v) None ≡ None → false ≡ t
+next_none true v e = absurd (cc)
+next_none false v e = refl
+
+-- the digits of a number, byte by byte of what the line has from `at` on
+abbrev pub from : List ℕ → ℕ → List ℕ
+from L at = take (length L - at) (drop at L)
+
+module _ (L : List ℕ) (at i v : ℕ) where
+  from_is : from L at ≡ drop at L
+  from_is = take_all _ _ (omega (arith, length-drop at L))
+
+  from_long : length (from L at) ≡ length L - at
+  from_long = ap length from_is ∙ length-drop at L
+
+  from_at : get_or (from L at) i 0 ≡ get_or L (at + i) 0
+  from_at = ap (λ l. get_or l i 0) from_is ∙ get_or-drop at L i 0
+
+  module _ (h : i < length (from L at)) where
+    inside : at + i < length L
+    inside = omega (arith, from_long)
+
+    pub number_on : (m : ℕ) → next v (get_or (from L at) i 0) ≡ Some m → digits found m (at + (i + 1)) (drop (at + (i + 1)) L) ≡ digits found v (at + i) (drop (at + i) L)
+    number_on m e =
+        let (on, more) = next_some _ _ m (rw from_at at e) in
+        let place : at + (i + 1) ≡ at + i + 1 = omega arith in rw (more, place) (digits_next L found (at + i) v inside on)
+
+    pub number_off : next v (get_or (from L at) i 0) ≡ None → Ok (v, at + i) ≡ digits found v (at + i) (drop (at + i) L)
+    number_off e = digits_stop L found (at + i) v inside (next_none _ _ (rw from_at at e))
+
+  pub number_whole : at ≤ length L → i ≤ length (from L at) → length (from L at) ≤ i → Ok (v, length L) ≡ digits found v (at + i) (drop (at + i) L)
+  number_whole a b c = digits_all L v (at + i) (omega (arith, from_long))
+
+-- of several readings the one that succeeds, or the one that comes furthest
+module _ {X : Type 0} where
+  pub read_already : (x : X) (rs : List (Result X ℕ)) → fold further (Ok x) rs ≡ Ok x
+  unfolding further
+  read_already x [] = refl
+  read_already x (r ∷ rs) = read_already x rs
+
+  module _ (rs : List (Result X ℕ)) (i far : ℕ) (r : Result X ℕ) (h : i < length rs) (e : r ≡ get_or rs i r) where
+    read_next : fold further (Err far) (drop i rs) ≡ fold further (further (Err far) r) (drop (i + 1) rs)
+    read_next = ap (fold further (Err far)) (drop_more rs i r h) ∙ ap (λ q. fold further (further (Err far) q) (drop (i + 1) rs)) (sym e)
+
+    pub read_found : (x : X) → r ≡ Ok x → Ok x ≡ fold further (Err far) (drop i rs)
+    unfolding further
+    read_found x k = sym (read_already x (drop (i + 1) rs)) ∙ ap (λ q. fold further (further (Err far) q) (drop (i + 1) rs)) (sym k) ∙ sym read_next
+
+    pub read_far : (p m : ℕ) → r ≡ Err p → m ≡ ord_max nat_cmp far p → fold further (Err m) (drop (i + 1) rs) ≡ fold further (Err far) (drop i rs)
+    unfolding further
+    read_far p m k l =
+        let larger : m ≡ max far p = grind arith in
+        ap (λ q. fold further (Err q) (drop (i + 1) rs)) larger ∙ ap (λ q. fold further (further (Err far) q) (drop (i + 1) rs)) (sym k) ∙ sym read_next
+
+  pub furthest_none : (r : Result X ℕ) → further (Err 0) r ≡ r
+  unfolding further
+  furthest_none (Ok x) = refl
+  furthest_none (Err p) = ap Err (omega arith)

@@ -2,6 +2,7 @@
 use Rattle.std.specs.Prelude.{◌≡◌, ℕ, ◌+◌, ◌^◌, ◌<◌, ◌≤◌, true, List, ◌++◌, length, take, is_ok, Ok, Err, Result}
 use Rattle.lines.specs.Lines.{line_of, claim_of, serves}
 use Rattle.lines.specs.Printed.{printed, printed_claim}
+use Rattle.calls.specs.declared.Call.TheVariants as calls
 use Rattle.lines.specs.declared.Line.{Line}
 use Rattle.lines.specs.declared.Line.TheVariants as line
 use Rattle.lines.specs.declared.Claim.{Claim}
@@ -21,12 +22,12 @@ pub record Longest {X : Type 0} (read : List ℕ → Result X ℕ) (bs : List �
 abbrev pub Fits : Line → Type 0
 Fits (line.Lamps n) = n < 65536
 Fits (line.Grid w h) = (w < 65536) × (h < 65536)
-Fits (line.Wire i j) = (i < 65536) × (j < 65536)
-Fits (line.Turn i) = i < 65536
-Fits (line.Press i) = i < 65536
-Fits line.Lit = Unit {0}
-Fits line.Out = Unit {0}
-Fits line.Ways = Unit {0}
+Fits (line.Call (calls.Wire i j)) = (i < 65536) × (j < 65536)
+Fits (line.Call (calls.Turn i)) = i < 65536
+Fits (line.Call (calls.Press i)) = i < 65536
+Fits (line.Call calls.Lit) = Unit {0}
+Fits (line.Call calls.Out) = Unit {0}
+Fits (line.Call calls.Ways) = Unit {0}
 Fits line.Nothing = Unit {0}
 
 abbrev pub ClaimFits : ℕ → Claim → Type 0

@@ -3,3 +3,4 @@ pub mod Lines
 pub mod Printed
 pub mod Laws
 pub mod Texts
+pub mod Refusals

@@ -1,6 +1,7 @@
 -- The lines of a text: calls, and claims about a board. Assumes nothing: these are definitions.
 use Rattle.std.specs.Prelude.{ℕ, Bool, cond, ◌&&◌, ◌||◌, List, length, Ok, Err, codes, Result, ◌==◌, nat_lt, slice_index}
 use Rattle.lines.specs.Readers.{Reader, ends, word, number, bits, ◌or◌}
+use Rattle.calls.specs.declared.Call.TheVariants as calls
 use Rattle.lines.specs.declared.Line.{Line}
 use Rattle.lines.specs.declared.Line.TheVariants as line
 use Rattle.lines.specs.declared.Claim.{Claim}
@@ -32,12 +33,12 @@ call =
     silent line.Nothing
     or one (codes "lamps ") line.Lamps
     or two (codes "grid ") line.Grid
-    or two (codes "wire ") line.Wire
-    or one (codes "turn ") line.Turn
-    or one (codes "press ") line.Press
-    or alone (codes "lit") line.Lit
-    or alone (codes "out") line.Out
-    or alone (codes "ways") line.Ways
+    or two (codes "wire ") (λ i j. line.Call (calls.Wire i j))
+    or one (codes "turn ") (λ i. line.Call (calls.Turn i))
+    or one (codes "press ") (λ i. line.Call (calls.Press i))
+    or alone (codes "lit") (line.Call calls.Lit)
+    or alone (codes "out") (line.Call calls.Out)
+    or alone (codes "ways") (line.Call calls.Ways)
 
 -- a board has 1 to 64 lamps
 abbrev pub serves : ℕ → Bool

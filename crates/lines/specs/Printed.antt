@@ -3,6 +3,7 @@ use Rattle.std.specs.Prelude.{ℕ, List, [], ◌∷◌, ◌++◌, codes, decimal
 use Rattle.gf2.specs.Rows.{pick}
 use Rattle.lamps.specs.Lamps.{Lamps, listed}
 use Rattle.bits.specs.Bits.{bit}
+use Rattle.calls.specs.declared.Call.TheVariants as calls
 use Rattle.lines.specs.declared.Line.{Line}
 use Rattle.lines.specs.declared.Line.TheVariants as line
 use Rattle.lines.specs.declared.Claim.{Claim}
@@ -21,12 +22,12 @@ set_in n w = listed n (bit w)
 abbrev pub printed : Line → List ℕ
 printed (line.Lamps n) = codes "lamps " ++ decimal n
 printed (line.Grid w h) = codes "grid " ++ (decimal w ++ (codes " " ++ decimal h))
-printed (line.Wire i j) = codes "wire " ++ (decimal i ++ (codes " " ++ decimal j))
-printed (line.Turn i) = codes "turn " ++ decimal i
-printed (line.Press i) = codes "press " ++ decimal i
-printed line.Lit = codes "lit"
-printed line.Out = codes "out"
-printed line.Ways = codes "ways"
+printed (line.Call (calls.Wire i j)) = codes "wire " ++ (decimal i ++ (codes " " ++ decimal j))
+printed (line.Call (calls.Turn i)) = codes "turn " ++ decimal i
+printed (line.Call (calls.Press i)) = codes "press " ++ decimal i
+printed (line.Call calls.Lit) = codes "lit"
+printed (line.Call calls.Out) = codes "out"
+printed (line.Call calls.Ways) = codes "ways"
 printed line.Nothing = []
 
 -- a line of a board of n lamps, and of claims about it

@@ -1,5 +1,5 @@
 -- How a line is read, byte by byte. Assumes nothing: these are definitions.
-use Rattle.std.specs.Prelude.{ℕ, zero, suc, ◌+◌, ◌-◌, ◌*◌, max, Bool, cond, ◌&&◌, ◌||◌, List, [], ◌∷◌, length, Ok, Err, Result, ◌==◌, nat_lt, slice_index}
+use Rattle.std.specs.Prelude.{ℕ, zero, suc, ◌+◌, ◌-◌, ◌*◌, max, Bool, cond, ◌&&◌, ◌||◌, List, [], ◌∷◌, length, Some, None, Option, Ok, Err, Result, ◌==◌, nat_lt, slice_index}
 
 -- a reader takes the rest of a line, with the place where the rest begins: it gives what it reads, or the place of the first byte that doesn't fit.
 -- Most hand what follows on to another reader, K
@@ -17,7 +17,7 @@ word [] K p bs = K p bs
 word (w ∷ ws) K p [] = Err p
 word (w ∷ ws) K p (b ∷ bs) = cond (b == w) (word ws K (suc p) bs) (Err p)
 
--- a byte is a decimal digit; the number v with the digit b put behind it; that is at most 65,535
+-- a byte is a decimal digit; the number v with the digit b put behind it; whether that is at most 65,535, and that where it is
 abbrev pub digit : ℕ → Bool
 digit b = nat_lt 47 b && nat_lt b 58
 
@@ -26,6 +26,9 @@ longer v b = 10 * v + (b - 48)
 
 abbrev pub goes_on : ℕ → ℕ → Bool
 goes_on v b = digit b && nat_lt (longer v b) 65536
+
+abbrev pub next : ℕ → ℕ → Option ℕ
+next v b = cond (goes_on v b) (Some (longer v b)) None
 
 -- the digits that stand here, as far as the number, which is v so far, goes on within 65,535
 unfoldable pub digits : {X : Type 0} → (ℕ → Reader X) → ℕ → Reader X

@@ -6,6 +6,9 @@ unfoldable pub lines_from : List ℕ → List ℕ → List (List ℕ)
 lines_from line [] = line ∷ []
 lines_from line (b ∷ bs) = cond (b == 10) (line ∷ lines_from [] bs) (lines_from (line ++ (b ∷ [])) bs)
 
--- the line that a refusal is answered by: its number and the place
+-- a refusal, by its number and the place; and the line that it is answered by
+abbrev pub refused_at : ℕ → ℕ → List ℕ
+refused_at k p = codes "refused " ++ (decimal k ++ (codes " at " ++ decimal p))
+
 abbrev pub refusal_line : ℕ → ℕ → List ℕ
 refusal_line k p = codes "refused " ++ (decimal k ++ (codes " at " ++ (decimal p ++ codes "\n")))

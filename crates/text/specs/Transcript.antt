@@ -1,8 +1,9 @@
 -- What is answered to each line of a text. Assumes nothing: these are definitions.
 use Rattle.std.specs.Prelude.{◌≡◌, ℕ, ◌*◌, Bool, true, false, List, [], ◌∷◌, ◌++◌, Some, None, Ok, Err, Option, Result}
 use Rattle.lamps.specs.Lamps.{Wire}
-use Rattle.lamps.specs.Calls.{Board, wires, turns, presses, lit, out, ways}
+use Rattle.lamps.specs.Calls.{Board}
 use Rattle.lamps.specs.Boards.{grid}
+use Rattle.calls.specs.Saying.{meant}
 use Rattle.lines.specs.Lines.{line_of, serves}
 use Rattle.lines.specs.declared.Line.{Line}
 use Rattle.lines.specs.declared.Line.TheVariants as line
@@ -24,12 +25,7 @@ Opens n ws = OpensIf (serves n) n ws
 abbrev pub Answers : Result Line ℕ → Option Board → List ℕ → Option Board → Type 0
 Answers (Ok (line.Lamps n)) = Opens n []
 Answers (Ok (line.Grid w h)) = Opens (w * h) (grid w h)
-Answers (Ok (line.Wire i j)) = Asks (wires i j)
-Answers (Ok (line.Turn i)) = Asks (turns i)
-Answers (Ok (line.Press i)) = Asks (presses i)
-Answers (Ok line.Lit) = Asks lit
-Answers (Ok line.Out) = Asks out
-Answers (Ok line.Ways) = Asks ways
+Answers (Ok (line.Call c)) = Asks (meant c)
 Answers (Ok line.Nothing) = λ b s b'. (s ≡ []) × (b' ≡ b)
 Answers (Err p) = λ b s b'. (s ≡ refusal_line 1 p) × (b' ≡ b)
 

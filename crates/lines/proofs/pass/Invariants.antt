@@ -1,7 +1,10 @@
-use Rattle.std.proofs.Common.{◌≡◌, drop}
+use Rattle.std.proofs.Common.{◌≡◌, ◌+◌, ◌≤◌, max, length, drop}
 use Rattle.lines.specs.Readers.{here, word}
 use Rattle.lines.proofs.pass.Given as goal
 
-abbrev pub invariant-loop-w : goal.invariant-loop-w
-invariant-loop-w l =
-    word (drop l.w-index l.keyword) here l.end (drop l.end l.line) ≡ word l.keyword here l.at (drop l.at l.line)
+abbrev pub invariant-loop-i : goal.invariant-loop-i
+invariant-loop-i l =
+    record {
+      within : l.at + l.i ≤ max l.at (length l.line);
+      rest : word (drop l.i l.keyword) here (l.at + l.i) (drop (l.at + l.i) l.line) ≡ word l.keyword here l.at (drop l.at l.line);
+    }

@@ -1,54 +1,24 @@
+use Rattle.std.proofs.Common.{◌≡◌, rules, codes}
+use Rattle.calls.specs.declared.Call.TheVariants as calls
 use Rattle.lines.specs.Readers.{further}
-use Rattle.lines.specs.Lines.{silent, line_of}
-use Rattle.lines.specs.declared.Line.TheVariants.{Lamps, Grid, Wire, Turn, Press, Lit, Out, Ways}
-use Rattle.lines.proofs.Forms.{alone_is, one_is, two_is}
+use Rattle.lines.specs.Lines.{silent, alone, one, two, line_of}
+use Rattle.lines.specs.declared.Line.TheVariants as line
+use Rattle.lines.proofs.Forms.{alone_read, one_read, two_read}
 use Rattle.lines.proofs.read_line.Goals as goal
 
 pub returns-then-says_nothing : goal.returns-then-says_nothing
 unfolding line_of silent further
 returns-then-says_nothing c = rw (← c.if-says_nothing.ensures)
 
-pub returns-in-Ok : goal.returns-in-Ok
-unfolding line_of silent further
-returns-in-Ok c =
-    rw (← c.if-says_nothing.ensures, one_is _ _ Lamps _ c.in-Ok.ensures)
-
-pub returns-in-Ok-with_two : goal.returns-in-Ok-with_two
-unfolding line_of silent further
-returns-in-Ok-with_two c =
-    rw (← c.if-says_nothing.ensures, one_is _ _ Lamps _ c.in-Err.ensures, two_is _ _ Grid _ c.in-Ok-with_two.ensures)
-
-pub returns-in-Ok-with_two-2 : goal.returns-in-Ok-with_two-2
-unfolding line_of silent further
-returns-in-Ok-with_two-2 c =
-    rw (← c.if-says_nothing.ensures, one_is _ _ Lamps _ c.in-Err.ensures, two_is _ _ Grid _ c.in-Err-with_two.ensures, two_is _ _ Wire _ c.in-Ok-with_two-2.ensures)
-
-pub returns-in-Ok-with_one : goal.returns-in-Ok-with_one
-unfolding line_of silent further
-returns-in-Ok-with_one c =
-    rw (← c.if-says_nothing.ensures, one_is _ _ Lamps _ c.in-Err.ensures, two_is _ _ Grid _ c.in-Err-with_two.ensures, two_is _ _ Wire _ c.in-Err-with_two-2.ensures, one_is _ _ Turn _ c.in-Ok-with_one.ensures)
-
-pub returns-in-Ok-with_one-2 : goal.returns-in-Ok-with_one-2
-unfolding line_of silent further
-returns-in-Ok-with_one-2 c =
-    rw (← c.if-says_nothing.ensures, one_is _ _ Lamps _ c.in-Err.ensures, two_is _ _ Grid _ c.in-Err-with_two.ensures, two_is _ _ Wire _ c.in-Err-with_two-2.ensures, one_is _ _ Turn _ c.in-Err-with_one.ensures, one_is _ _ Press _ c.in-Ok-with_one-2.ensures)
-
-pub returns-in-Ok-bare : goal.returns-in-Ok-bare
-unfolding line_of silent further
-returns-in-Ok-bare c =
-    rw (← c.if-says_nothing.ensures, one_is _ _ Lamps _ c.in-Err.ensures, two_is _ _ Grid _ c.in-Err-with_two.ensures, two_is _ _ Wire _ c.in-Err-with_two-2.ensures, one_is _ _ Turn _ c.in-Err-with_one.ensures, one_is _ _ Press _ c.in-Err-with_one-2.ensures, alone_is _ _ Lit _ c.in-Ok-bare.ensures)
-
-pub returns-in-Ok-bare-2 : goal.returns-in-Ok-bare-2
-unfolding line_of silent further
-returns-in-Ok-bare-2 c =
-    rw (← c.if-says_nothing.ensures, one_is _ _ Lamps _ c.in-Err.ensures, two_is _ _ Grid _ c.in-Err-with_two.ensures, two_is _ _ Wire _ c.in-Err-with_two-2.ensures, one_is _ _ Turn _ c.in-Err-with_one.ensures, one_is _ _ Press _ c.in-Err-with_one-2.ensures, alone_is _ _ Lit _ c.in-Err-bare.ensures, alone_is _ _ Out _ c.in-Ok-bare-2.ensures)
-
-pub returns-in-Ok-bare-3 : goal.returns-in-Ok-bare-3
-unfolding line_of silent further
-returns-in-Ok-bare-3 c =
-    rw (← c.if-says_nothing.ensures, one_is _ _ Lamps _ c.in-Err.ensures, two_is _ _ Grid _ c.in-Err-with_two.ensures, two_is _ _ Wire _ c.in-Err-with_two-2.ensures, one_is _ _ Turn _ c.in-Err-with_one.ensures, one_is _ _ Press _ c.in-Err-with_one-2.ensures, alone_is _ _ Lit _ c.in-Err-bare.ensures, alone_is _ _ Out _ c.in-Err-bare-2.ensures, alone_is _ _ Ways _ c.in-Ok-bare-3.ensures)
-
 pub returns : goal.returns
 unfolding line_of silent further
 returns c =
-    rw (← c.if-says_nothing.ensures, one_is _ _ Lamps _ c.in-Err.ensures, two_is _ _ Grid _ c.in-Err-with_two.ensures, two_is _ _ Wire _ c.in-Err-with_two-2.ensures, one_is _ _ Turn _ c.in-Err-with_one.ensures, one_is _ _ Press _ c.in-Err-with_one-2.ensures, alone_is _ _ Lit _ c.in-Err-bare.ensures, alone_is _ _ Out _ c.in-Err-bare-2.ensures, alone_is _ _ Ways _ c.in-Err-bare-3.ensures) (cc)
+    let lamps : c.map.result ≡ one (codes "lamps ") line.Lamps 0 c.args.line.now = one_read _ _ _ line.Lamps _ c.with_one.ensures c.map.ensures.cases (λ n y p. search rules) in
+    let grid : c.map-2.result ≡ two (codes "grid ") line.Grid 0 c.args.line.now = two_read _ _ _ line.Grid _ c.with_two.ensures c.map-2.ensures.cases (λ n y p. search rules) in
+    let wire : c.map-3.result ≡ two (codes "wire ") (λ i j. line.Call (calls.Wire i j)) 0 c.args.line.now = two_read _ _ _ (λ i j. line.Call (calls.Wire i j)) _ c.with_two-2.ensures c.map-3.ensures.cases (λ n y p. search rules) in
+    let turn : c.map-4.result ≡ one (codes "turn ") (λ i. line.Call (calls.Turn i)) 0 c.args.line.now = one_read _ _ _ (λ i. line.Call (calls.Turn i)) _ c.with_one-2.ensures c.map-4.ensures.cases (λ n y p. search rules) in
+    let press : c.map-5.result ≡ one (codes "press ") (λ i. line.Call (calls.Press i)) 0 c.args.line.now = one_read _ _ _ (λ i. line.Call (calls.Press i)) _ c.with_one-3.ensures c.map-5.ensures.cases (λ n y p. search rules) in
+    let lit : c.map-6.result ≡ alone (codes "lit") (line.Call calls.Lit) 0 c.args.line.now = alone_read _ _ _ (line.Call calls.Lit) _ c.bare.ensures c.map-6.ensures.cases (λ n y p. search rules) in
+    let out : c.map-7.result ≡ alone (codes "out") (line.Call calls.Out) 0 c.args.line.now = alone_read _ _ _ (line.Call calls.Out) _ c.bare-2.ensures c.map-7.ensures.cases (λ n y p. search rules) in
+    let ways : c.map-8.result ≡ alone (codes "ways") (line.Call calls.Ways) 0 c.args.line.now = alone_read _ _ _ (line.Call calls.Ways) _ c.bare-3.ensures c.map-8.ensures.cases (λ n y p. search rules) in
+    rw (← c.if-says_nothing.ensures, ← lamps, ← grid, ← wire, ← turn, ← press, ← lit, ← out, ← ways) c.furthest.ensures
