@@ -1,5 +1,5 @@
 -- The table of all sums of a block's rows, built by doubling: with each row of the block it has as many rows again. Assumes nothing.
-use Rattle.std.proofs.Common.{◌≡◌, ℕ, zero, suc, ◌+◌, ◌*◌, ◌^◌, ◌<◌, Bool, true, false, ◌&&◌, ◌≢◌, List, sym, refl, ap, ◌∙◌, subst, ap₂, inl, inr, pow-suc, zero-add, add-one, arith}
+use Rattle.std.proofs.Common.{◌≡◌, ℕ, zero, suc, ◌+◌, ◌*◌, ◌%◌, ◌^◌, ◌<◌, ◌≤◌, Bool, true, false, ◌&&◌, ◌≢◌, List, sym, refl, ap, ◌∙◌, subst, ap₂, inl, inr, pow-suc, pow_mono, zero-add, add-one, arith}
 use Rattle.std.proofs.lemmas.Bool.{cases_eq}
 use Rattle.gf2.specs.Rows.{pick, differ, Row, sum, dot}
 use Rattle.gf2.proofs.Parity.{differ_comm}
@@ -10,9 +10,9 @@ use Rattle.blocks.specs.Said.{number, Tabled, Doubled}
 
 -- ---- the number of a choice
 
--- what the loops over the digits keep doubling
-pub power_more : (b : ℕ) → 2 ^ b * 2 ≡ 2 ^ (b + 1)
-power_more b = sym (pow-suc 2 b) ∙ ap (λ z. 2 ^ z) (sym (add-one b))
+-- `1 << b`
+pub shifted : (b : ℕ) → b ≤ 6 → 1 * 2 ^ b % 18446744073709551616 ≡ 2 ^ b
+shifted b few = let most : 2 ^ b ≤ 2 ^ 6 = pow_mono few in omega arith
 
 pub number_below : (w : Row) (b : ℕ) → number w b < 2 ^ b
 number_below w zero = omega arith

@@ -1,6 +1,7 @@
-use Rattle.std.proofs.Common.{◌≡◌, ◌^◌}
-use Rattle.blocks.specs.Said.{number, hits}
+use Rattle.std.proofs.Common.{◌≡◌}
+use Rattle.matrix.specs.Cells.{width_of}
+use Rattle.blocks.specs.Said.{block_of, number, hits}
 use Rattle.blocks.proofs.entry.Given as goal
 
-abbrev pub invariant-loop-column : goal.invariant-loop-column
-invariant-loop-column l = (l.e ≡ number (hits l.n l.width l.rows l.columns l.i) l.column-index) × (l.unit ≡ 2 ^ l.column-index)
+abbrev pub invariant-loop-b : goal.invariant-loop-b
+invariant-loop-b l = l.e ≡ number (hits l.steps.n (width_of l.steps.n) l.steps.rows.now (block_of l.steps.pivots.now l.first l.end) l.i) l.b
