@@ -1,6 +1,7 @@
 -- The table of all sums of a block's rows, built by doubling: with each row of the block it has as many rows again. Assumes nothing.
 use Rattle.std.proofs.Common.{◌≡◌, ℕ, zero, suc, ◌+◌, ◌*◌, ◌%◌, ◌^◌, ◌<◌, ◌≤◌, Bool, true, false, ◌&&◌, ◌≢◌, List, sym, refl, ap, ◌∙◌, subst, ap₂, inl, inr, pow-suc, pow_mono, zero-add, add-one, arith}
 use Rattle.std.proofs.lemmas.Bool.{cases_eq}
+use Rattle.std.specs.Int.{from_bool}
 use Rattle.gf2.specs.Rows.{pick, differ, Row, sum, dot}
 use Rattle.gf2.proofs.Parity.{differ_comm}
 use Rattle.matrix.specs.Cells.{cell}
@@ -24,6 +25,17 @@ number_below w (suc b) = go (w b) (number_below w b)
 
 pub number_more : (w : Row) (b : ℕ) (x : Bool) → x ≡ w b → number w (b + 1) ≡ pick x (2 ^ b) 0 + number w b
 number_more w b x e = ap (number w) (add-one b) ∙ ap (λ y. pick y (2 ^ b) 0 + number w b) (sym e)
+
+-- one digit more is added
+pub number_added : (w : Row) (b e v : ℕ) (x : Bool) → b ≤ 6 → e ≡ number w b → v ≡ from_bool x → x ≡ w b → e + v * 2 ^ b % 18446744073709551616 ≡ number w (b + 1)
+number_added w b e v true few is one on =
+    let more = number_more w b true on in
+    let digit : v * 2 ^ b % 18446744073709551616 ≡ 1 * 2 ^ b % 18446744073709551616 = ap (λ z. z * 2 ^ b % 18446744073709551616) one in
+    omega (arith, shifted b few)
+number_added w b e v false few is none off =
+    let more = number_more w b false off in
+    let digit : v * 2 ^ b % 18446744073709551616 ≡ 0 * 2 ^ b % 18446744073709551616 = ap (λ z. z * 2 ^ b % 18446744073709551616) none in
+    omega arith
 
 -- ---- twice as many rows
 

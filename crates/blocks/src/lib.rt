@@ -124,8 +124,8 @@ fn entry(steps: &Steps, first: u16, end: u16, i: u16) -> usize
         .iter()
         .enumerate()
     {
-        if *column < steps.n && steps.has(i, *column) {
-            e += 1 << b;
+        if *column < steps.n {
+            e += usize::from(steps.has(i, *column)) << b;
         }
     }
     e
