@@ -1,5 +1,5 @@
 -- The block's pivots are cleared from each other row by one row of the table. Assumes nothing.
-use Rattle.std.proofs.Common.{◌≡◌, ℕ, ◌+◌, ◌-◌, ◌^◌, ◌<◌, ◌≤◌, false, ◌&&◌, ltb, ◌⊎◌, List, length, sym, refl, ap, ◌∙◌, subst, ap₂, length-take, inl, inr, arith, pow_mono}
+use Rattle.std.proofs.Common.{◌≡◌, ℕ, ◌+◌, ◌-◌, ◌^◌, ◌<◌, ◌≤◌, false, ◌&&◌, ltb, ◌⊎◌, List, [], ◌++◌, length, drop, length-append, sym, refl, ap, ◌∙◌, subst, ap₂, length-take, inl, inr, arith, pow_mono}
 use mathlib.Core.Path.{fun_ext}
 use Rattle.std.proofs.lemmas.Bool.{cases_eq}
 use Rattle.gf2.specs.Rows.{differ, Rows, sum, dot}
@@ -21,11 +21,16 @@ use Rattle.blocks.proofs.Table.{number_below, tabled_nothing}
 pub swept_none : (width : ℕ) (ws table : List ℕ) (e : ℕ → ℕ) (low : ℕ) → Swept width ws ws table e low low
 swept_none width ws table e low = record { added = λ off i g l. absurd (omega arith); others = λ i o j. refl }
 
-entry_below : (n width : ℕ) (ws columns : List ℕ) (i : ℕ) → length columns ≤ 6 → entry_of n width ws columns i < 64
-entry_below n width ws columns i few =
-    let below = number_below (hits n width ws columns i) (length columns) in
-    let most : 2 ^ length columns ≤ 2 ^ 6 = pow_mono few in
+-- a block has at most six rows, and its table at most sixty-four
+pub read_below : (n width : ℕ) (ws rest read cs : List ℕ) (first end i : ℕ) → end - first ≤ 6 → rest ++ read ≡ block_of cs first end → entry_of n width ws read i < 64
+read_below n width ws rest read cs first end i few all =
+    let below = number_below (hits n width ws read i) (length read) in
+    let long = simp length-append at (ap length all) in
+    let most : 2 ^ length read ≤ 2 ^ 6 = pow_mono {i = length read} {j = 6} (omega (arith, long, length-take (end - first) (drop first cs))) in
     omega arith
+
+pub asked_below : (s : Steps) (first end i : ℕ) → end - first ≤ 6 → asked s first end i < 64
+asked_below s first end i few = read_below s.n (width_of s.n) s.rows.now [] (block_of s.pivots.now first end) s.pivots.now first end i few refl
 
 -- what a row asks for depends on the row alone
 pub same_entry : (n width : ℕ) (ws ws' columns : List ℕ) (i : ℕ) → ((j : ℕ) → cell ws' width i j ≡ cell ws width i j)
@@ -38,10 +43,6 @@ pub asked_same : (s₀ s : Steps) (first end i : ℕ) → InPlace s₀ s → s.p
 asked_same s₀ s first end i place pivots same =
     ap₂ (λ n cs. entry_of n (width_of n) s.rows.now (block_of cs first end) i) place.n pivots
     ∙ same_entry s₀.n (width_of s₀.n) s₀.rows.now s.rows.now (block_of s₀.pivots.now first end) i same
-
--- a block has at most six rows, and its table at most sixty-four
-pub asked_below : (s : Steps) (first end i : ℕ) → end - first ≤ 6 → asked s first end i < 64
-asked_below s first end i few = entry_below s.n (width_of s.n) s.rows.now (block_of s.pivots.now first end) i (simp length-take (omega arith))
 
 module _ (width : ℕ) (old mid table : List ℕ) (e : ℕ → ℕ) (low m : ℕ) (g : low ≤ m) (so_far : Swept width old mid table e low m) where
   earlier : (i : ℕ) → (i < low) ⊎ (m + 1 ≤ i) → (i < low) ⊎ (m ≤ i)

@@ -1,5 +1,5 @@
 -- The table of all sums of a block's rows, built by doubling: with each row of the block it has as many rows again. Assumes nothing.
-use Rattle.std.proofs.Common.{◌≡◌, ℕ, zero, suc, ◌+◌, ◌*◌, ◌%◌, ◌^◌, ◌<◌, ◌≤◌, Bool, true, false, ◌&&◌, ◌≢◌, List, sym, refl, ap, ◌∙◌, subst, ap₂, inl, inr, pow-suc, pow_mono, zero-add, add-one, arith}
+use Rattle.std.proofs.Common.{◌≡◌, ℕ, zero, suc, ◌+◌, ◌*◌, ◌%◌, ◌^◌, ◌<◌, ◌≤◌, Bool, true, false, ◌&&◌, ltb, [], ◌∷◌, ◌++◌, length, ◌≢◌, List, sym, refl, ap, ◌∙◌, subst, ap₂, inl, inr, pow-suc, pow_mono, zero-add, add-one, arith}
 use Rattle.std.proofs.lemmas.Bool.{cases_eq}
 use Rattle.std.specs.Int.{from_bool}
 use Rattle.gf2.specs.Rows.{pick, differ, Row, sum, dot}
@@ -7,7 +7,7 @@ use Rattle.gf2.proofs.Parity.{differ_comm}
 use Rattle.matrix.specs.Cells.{cell}
 use Rattle.matrix.specs.Said.{RowPut, RowAdded}
 use Rattle.matrix.proofs.Memory.{other_cells}
-use Rattle.blocks.specs.Said.{number, Tabled, Doubled}
+use Rattle.blocks.specs.Said.{number, hits, entry_of, Tabled, Doubled}
 
 -- ---- the number of a choice
 
@@ -26,16 +26,32 @@ number_below w (suc b) = go (w b) (number_below w b)
 pub number_more : (w : Row) (b : ℕ) (x : Bool) → x ≡ w b → number w (b + 1) ≡ pick x (2 ^ b) 0 + number w b
 number_more w b x e = ap (number w) (add-one b) ∙ ap (λ y. pick y (2 ^ b) 0 + number w b) (sym e)
 
--- one digit more is added
-pub number_added : (w : Row) (b e v : ℕ) (x : Bool) → b ≤ 6 → e ≡ number w b → v ≡ from_bool x → x ≡ w b → e + v * 2 ^ b % 18446744073709551616 ≡ number w (b + 1)
-number_added w b e v true few is one on =
-    let more = number_more w b true on in
-    let digit : v * 2 ^ b % 18446744073709551616 ≡ 1 * 2 ^ b % 18446744073709551616 = ap (λ z. z * 2 ^ b % 18446744073709551616) one in
-    omega (arith, shifted b few)
-number_added w b e v false few is none off =
-    let more = number_more w b false off in
-    let digit : v * 2 ^ b % 18446744073709551616 ≡ 0 * 2 ^ b % 18446744073709551616 = ap (λ z. z * 2 ^ b % 18446744073709551616) none in
-    omega arith
+-- a digit is put below the others
+number_below_others : (w : Row) (m : ℕ) → number w (suc m) ≡ number (λ k. w (suc k)) m * 2 + from_bool (w 0)
+number_below_others w zero = go (w 0)
+  where
+    go : (x : Bool) → pick x 1 0 + 0 ≡ 0 * 2 + from_bool x
+    go true = refl
+    go false = refl
+number_below_others w (suc m) = go (w (suc m)) (number_below_others w m)
+  where
+    go : (x : Bool) → number w (suc m) ≡ number (λ k. w (suc k)) m * 2 + from_bool (w 0)
+        → pick x (2 ^ suc m) 0 + number w (suc m) ≡ (pick x (2 ^ m) 0 + number (λ k. w (suc k)) m) * 2 + from_bool (w 0)
+    go true h = let e = pow-suc 2 m in omega arith
+    go false h = omega arith
+
+pub entry_more : (n width : ℕ) (ws : List ℕ) (i column : ℕ) (columns : List ℕ)
+    → entry_of n width ws (column ∷ columns) i ≡ entry_of n width ws columns i * 2 + from_bool (ltb column n && cell ws width i column)
+entry_more n width ws i column columns = number_below_others (hits n width ws (column ∷ columns) i) (length columns)
+
+pub digit_small : (x : Bool) → from_bool x ≤ 1
+digit_small true = omega arith
+digit_small false = omega arith
+
+-- all columns have been read
+pub none_left : (rest read columns : List ℕ) → length rest ≡ 0 → rest ++ read ≡ columns → read ≡ columns
+none_left [] read columns l e = e
+none_left (x ∷ rest) read columns l e = absurd (omega arith)
 
 -- ---- twice as many rows
 

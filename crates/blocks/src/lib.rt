@@ -120,12 +120,10 @@ fn entry(steps: &Steps, first: u16, end: u16, i: u16) -> usize
     ensures { result ≡ asked steps.now first end i }
 {
     let mut e = 0;
-    for (b, column) in steps.pivots[first as usize..end as usize]
-        .iter()
-        .enumerate()
-    {
+    for column in steps.pivots[first as usize..end as usize].iter().rev() {
+        e *= 2;
         if *column < steps.n {
-            e += usize::from(steps.has(i, *column)) << b;
+            e += usize::from(steps.has(i, *column));
         }
     }
     e

@@ -1,33 +1,52 @@
-use Rattle.std.proofs.Common.{◌+◌, ◌*◌, ◌%◌, ◌^◌, ◌≡◌, ◌≤◌, ◌&&◌, false, sym, ap, ◌∙◌, arith, pow_mono}
+use Rattle.std.proofs.Common.{◌+◌, ◌*◌, ◌&&◌, Bool, sym, ap, refl, ◌∙◌, ap₂, arith, [], ◌∷◌, ◌++◌, append-nil, append_assoc}
+use Rattle.std.specs.Int.{from_bool}
 use Rattle.std.proofs.lemmas.Bool.{lt-ltb, le-ltb, and_left}
-use Rattle.gf2.specs.Rows.{Row}
 use Rattle.matrix.specs.Cells.{width_of, cell}
-use Rattle.echelon.specs.Steps.{column_of}
-use Rattle.blocks.specs.Said.{block_of, number, hits}
-use Rattle.blocks.proofs.Table.{number_below, number_more, number_added}
+use Rattle.blocks.specs.Said.{entry_of}
+use Rattle.blocks.proofs.Table.{digit_small, entry_more, none_left}
+use Rattle.blocks.proofs.Swept.{read_below}
 use Rattle.blocks.proofs.entry.Goals as goal
-use Rattle.blocks.proofs.entry.Goals.{then-column-steps, else-column-steps}
+
+pub loop-column-init : goal.loop-column-init
+loop-column-init c = ([], append-nil _ ∙ cc, refl)
+
+pub overflow_mul-e : goal.overflow_mul-e
+overflow_mul-e c =
+    let s = c.args.steps.now in
+    let (read, all, is) = c.loop-column.invariant in
+    omega (arith, is, read_below s.n (width_of s.n) s.rows.now _ read s.pivots.now c.args.first c.args.end c.args.i c.requires.few all)
 
 pub overflow_add-e : goal.overflow_add-e
 overflow_add-e c =
     let s = c.args.steps.now in
-    let b = c.loop-b.b in
-    let w : Row = hits s.n (width_of s.n) s.rows.now (block_of s.pivots.now c.args.first c.args.end) c.args.i in
-    let few : 2 ^ (b + 1) ≤ 2 ^ 6 = pow_mono {i = b + 1} {j = 6} (omega arith) in
-    let below = number_below w (b + 1) in
-    let on = ap (λ t. t && cell s.rows.now (width_of s.n) c.args.i (column_of (block_of s.pivots.now c.args.first c.args.end) b)) (lt-ltb _ _ c.if-column-steps.true) in
-    omega (arith, number_added w b c.loop-b.e c.from.result c.has.result (omega arith) c.loop-b.invariant c.from.ensures (c.has.ensures ∙ sym on))
+    let (read, all, is) = c.loop-column.invariant in
+    omega (arith, is, c.from-e.ensures, digit_small c.has.result, read_below s.n (width_of s.n) s.rows.now _ read s.pivots.now c.args.first c.args.end c.args.i c.requires.few all)
 
-pub loop-b-preserved : goal.loop-b-preserved
-loop-b-preserved c =
+pub loop-column-preserved-then-column-steps : goal.loop-column-preserved-then-column-steps
+loop-column-preserved-then-column-steps c =
     let s = c.args.steps.now in
-    let b = c.loop-b.b in
-    let w : Row = hits s.n (width_of s.n) s.rows.now (block_of s.pivots.now c.args.first c.args.end) c.args.i in
-    elim c.if-column-steps.branch [
-      | then-column-steps v ↦
-          let on = ap (λ t. t && cell s.rows.now (width_of s.n) c.args.i (column_of (block_of s.pivots.now c.args.first c.args.end) b)) (lt-ltb _ _ v.if-column-steps.true) in
-          v.e-is ∙ number_added w b c.loop-b.e v.from.result v.has.result (omega arith) c.loop-b.invariant v.from.ensures (v.has.ensures ∙ sym on)
-      | else-column-steps v ↦
-          let more = number_more w b false (sym (and_left _ _ (le-ltb _ _ v.if-column-steps.false))) in
-          omega (arith, v.e-is)
-    ]
+    let (read, all, is) = c.loop-column.invariant in
+    let x = c.in-Some.column.now in
+    let bit : Bool = cell s.rows.now (width_of s.n) c.args.i x in
+    let on = ap (λ t. t && bit) (lt-ltb _ _ c.if-column-steps.true) in (
+      x ∷ read,
+      sym (append_assoc c.next.new.self.iter.rest.now (x ∷ []) read) ∙ ap (λ l. l ++ read) (sym c.in-Some.ensures.steps) ∙ all,
+      ap₂ (λ e v. e * 2 + v) is (c.from-e.ensures ∙ ap from_bool (c.has.ensures ∙ sym on)) ∙ sym (entry_more s.n (width_of s.n) s.rows.now c.args.i x read),
+    )
+
+pub loop-column-preserved : goal.loop-column-preserved
+loop-column-preserved c =
+    let s = c.args.steps.now in
+    let (read, all, is) = c.loop-column.invariant in
+    let x = c.in-Some.column.now in
+    let off = ap from_bool (and_left _ (cell s.rows.now (width_of s.n) c.args.i x) (le-ltb _ _ c.if-column-steps.false)) in (
+      x ∷ read,
+      sym (append_assoc c.next.new.self.iter.rest.now (x ∷ []) read) ∙ ap (λ l. l ++ read) (sym c.in-Some.ensures.steps) ∙ all,
+      omega (arith, is, off, entry_more s.n (width_of s.n) s.rows.now c.args.i x read),
+    )
+
+pub returns : goal.returns
+returns c =
+    let s = c.args.steps.now in
+    let (read, all, is) = c.loop-column.invariant in
+    is ∙ ap (λ columns. entry_of s.n (width_of s.n) s.rows.now columns c.args.i) (none_left _ read _ c.in-None.ensures.steps.0 all)

@@ -1,7 +1,10 @@
-use Rattle.std.proofs.Common.{◌≡◌}
+use Rattle.std.proofs.Common.{◌≡◌, ℕ, List, ◌++◌}
 use Rattle.matrix.specs.Cells.{width_of}
-use Rattle.blocks.specs.Said.{block_of, number, hits}
+use Rattle.blocks.specs.Said.{block_of, entry_of}
 use Rattle.blocks.proofs.entry.Given as goal
 
-abbrev pub invariant-loop-b : goal.invariant-loop-b
-invariant-loop-b l = l.e ≡ number (hits l.steps.n (width_of l.steps.n) l.steps.rows.now (block_of l.steps.pivots.now l.first l.end) l.i) l.b
+-- the columns at the end of the block have been read
+abbrev pub invariant-loop-column : goal.invariant-loop-column
+invariant-loop-column l =
+    (read : List ℕ) × (l.column-iterator.iter.rest.now ++ read ≡ block_of l.steps.pivots.now l.first l.end)
+    × (l.e ≡ entry_of l.steps.n (width_of l.steps.n) l.steps.rows.now read l.i)
