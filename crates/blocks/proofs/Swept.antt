@@ -1,7 +1,8 @@
 -- The block's pivots are cleared from each other row by one row of the table. Assumes nothing.
-use Rattle.std.proofs.Common.{◌≡◌, ℕ, ◌+◌, ◌-◌, ◌^◌, ◌<◌, ◌≤◌, false, ◌&&◌, ltb, ◌⊎◌, List, [], ◌++◌, length, drop, length-append, sym, refl, ap, ◌∙◌, subst, ap₂, length-take, inl, inr, arith, pow_mono}
+use Rattle.std.proofs.Common.{◌≡◌, ℕ, ◌+◌, ◌-◌, ◌*◌, ◌^◌, ◌<◌, ◌≤◌, false, ◌&&◌, ltb, ◌⊎◌, List, [], ◌++◌, length, drop, length-append, sym, refl, ap, ◌∙◌, subst, ap₂, length-take, inl, inr, arith, pow_mono}
 use mathlib.Core.Path.{fun_ext}
 use Rattle.std.proofs.lemmas.Bool.{cases_eq}
+use Rattle.std.proofs.lemmas.Nat.{mul-le}
 use Rattle.gf2.specs.Rows.{differ, Rows, sum, dot}
 use Rattle.gf2.specs.Blocks.{Sweeps}
 use Rattle.gf2.proofs.Parity.{differ_false}
@@ -18,9 +19,6 @@ use Rattle.blocks.proofs.Table.{number_below, tabled_nothing}
 
 -- ---- one turn of the loop over the rows
 
-pub swept_none : (width : ℕ) (ws table : List ℕ) (e : ℕ → ℕ) (low : ℕ) → Swept width ws ws table e low low
-swept_none width ws table e low = record { added = λ off i g l. absurd (omega arith); others = λ i o j. refl }
-
 -- a block has at most six rows, and its table at most sixty-four
 pub read_below : (n width : ℕ) (ws rest read cs : List ℕ) (first end i : ℕ) → end - first ≤ 6 → rest ++ read ≡ block_of cs first end → entry_of n width ws read i < 64
 read_below n width ws rest read cs first end i few all =
@@ -29,8 +27,12 @@ read_below n width ws rest read cs first end i few all =
     let most : 2 ^ length read ≤ 2 ^ 6 = pow_mono {i = length read} {j = 6} (omega (arith, long, length-take (end - first) (drop first cs))) in
     omega arith
 
-pub asked_below : (s : Steps) (first end i : ℕ) → end - first ≤ 6 → asked s first end i < 64
-asked_below s first end i few = read_below s.n (width_of s.n) s.rows.now [] (block_of s.pivots.now first end) s.pivots.now first end i few refl
+-- and so the row that is asked for is within the table
+pub asked_row : (s : Steps) (first end i e width : ℕ) → end - first ≤ 6 → e ≡ asked s first end i → width ≤ 16 → e * width + width ≤ 1024
+asked_row s first end i e width few is narrow =
+    let below = read_below s.n (width_of s.n) s.rows.now [] (block_of s.pivots.now first end) s.pivots.now first end i few refl in
+    let most = mul-le (e + 1) width 64 16 (omega (arith, is)) narrow in
+    omega arith
 
 -- what a row asks for depends on the row alone
 pub same_entry : (n width : ℕ) (ws ws' columns : List ℕ) (i : ℕ) → ((j : ℕ) → cell ws' width i j ≡ cell ws width i j)

@@ -1,6 +1,7 @@
 -- The table of all sums of a block's rows, built by doubling: with each row of the block it has as many rows again. Assumes nothing.
 use Rattle.std.proofs.Common.{◌≡◌, ℕ, zero, suc, ◌+◌, ◌*◌, ◌%◌, ◌^◌, ◌<◌, ◌≤◌, Bool, true, false, ◌&&◌, ltb, [], ◌∷◌, ◌++◌, length, ◌≢◌, List, sym, refl, ap, ◌∙◌, subst, ap₂, inl, inr, pow-suc, pow_mono, zero-add, add-one, arith}
 use Rattle.std.proofs.lemmas.Bool.{cases_eq}
+use Rattle.std.proofs.lemmas.Nat.{mul-le}
 use Rattle.std.specs.Int.{from_bool}
 use Rattle.gf2.specs.Rows.{pick, differ, Row, sum, dot}
 use Rattle.gf2.proofs.Parity.{differ_comm}
@@ -22,9 +23,6 @@ number_below w (suc b) = go (w b) (number_below w b)
     go : (x : Bool) → number w b < 2 ^ b → pick x (2 ^ b) 0 + number w b < 2 ^ suc b
     go true h = let e = pow-suc 2 b in omega arith
     go false h = let e = pow-suc 2 b in omega arith
-
-pub number_more : (w : Row) (b : ℕ) (x : Bool) → x ≡ w b → number w (b + 1) ≡ pick x (2 ^ b) 0 + number w b
-number_more w b x e = ap (number w) (add-one b) ∙ ap (λ y. pick y (2 ^ b) 0 + number w b) (sym e)
 
 -- a digit is put below the others
 number_below_others : (w : Row) (m : ℕ) → number w (suc m) ≡ number (λ k. w (suc k)) m * 2 + from_bool (w 0)
@@ -53,6 +51,10 @@ pub none_left : (rest read columns : List ℕ) → length rest ≡ 0 → rest ++
 none_left [] read columns l e = e
 none_left (x ∷ rest) read columns l e = absurd (omega arith)
 
+-- a table has room for the sums of six rows of sixteen words
+pub table_long : (count width : ℕ) → count ≤ 6 → width ≤ 16 → 2 ^ count * width ≤ 1024
+table_long count width few narrow = omega (arith, mul-le (2 ^ count) width 64 16 (pow_mono few) narrow)
+
 -- ---- twice as many rows
 
 -- a row is written over row `to`, and then row `from` is added to it
@@ -62,9 +64,6 @@ put_sum old mid new width to from row ne put add = record {
   here = λ j. add.here j ∙ ap₂ (λ x y. differ x y) (put.here j) (other_cells put.rest from ne j) ∙ differ_comm (row j) (cell old width from j);
   rest = record { before = add.rest.before ∙ put.rest.before; after = add.rest.after ∙ put.rest.after };
 }
-
-pub doubled_none : (ws : List ℕ) (width size : ℕ) (row : Row) → Doubled ws ws width size 0 row
-doubled_none ws width size row = record { added = λ e l. absurd (omega arith); others = λ i o j. refl }
 
 pub doubled_more : (old mid new : List ℕ) (width size m : ℕ) (row : Row) → m < size → Doubled old mid width size m row
     → RowPut mid new width (size + m) (sum (cell mid width m) row) → Doubled old new width size (m + 1) row
@@ -79,9 +78,6 @@ doubled_more old mid new width size m row l so_far put = record {
 }
 
 -- ---- all sums of the block's rows
-
-pub tabled_none : (table memory : List ℕ) (width first : ℕ) → ((j : ℕ) → cell table width 0 j ≡ false) → Tabled table memory width first 0
-tabled_none table memory width first off = record { chosen = λ w j. off j }
 
 pub tabled_more : (table table' memory : List ℕ) (width first b size : ℕ) → size ≡ 2 ^ b → Tabled table memory width first b
     → Doubled table table' width size size (cell memory width (first + b)) → Tabled table' memory width first (b + 1)

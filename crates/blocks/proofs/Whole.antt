@@ -1,15 +1,14 @@
 -- Blocks of rows reduced one after the other. Assumes nothing.
-use Rattle.std.proofs.Common.{◌≡◌, ℕ, ◌<◌, ◌≤◌, List, false, None, sym, refl, ◌∙◌, subst, inl, inr, arith}
+use Rattle.std.proofs.Common.{◌≡◌, ℕ, ◌<◌, ◌≤◌, List, sym, refl, ◌∙◌, subst, inl, inr, arith}
 use Rattle.std.proofs.lemmas.Bool.{cases_lt, ne_eqb}
 use Rattle.gf2.specs.Rows.{Rows}
 use Rattle.gf2.specs.Reduction.{Tracks}
 use Rattle.gf2.specs.Blocks.{Stepped}
 use Rattle.gf2.proofs.Tracks.{tracks_start}
-use Rattle.gf2.proofs.Blocks.{stepped_none, stepped_zeros, stepped_pivots}
+use Rattle.gf2.proofs.Blocks.{stepped_none, stepped_zeros}
 use Rattle.matrix.specs.Cells.{cell, Spare}
 use Rattle.matrix.specs.Said.{Identity}
-use Rattle.echelon.specs.Steps.{InSteps}
-use Rattle.blocks.specs.Said.{FirstRow, NextRow, BlockReduces}
+use Rattle.blocks.specs.Said.{FirstRow, BlockReduces}
 
 -- the first k rows have their pivots, and the others none yet
 pub record Working (n width : ℕ) (A : Rows) (rs ts : List ℕ) (c : ℕ → ℕ) (k : ℕ) : Type 0 where
@@ -31,19 +30,15 @@ working_start n width rs ts c id none_yet = record {
 }
 
 -- rows without a bit are passed by
-working_zeros : (n width : ℕ) (A : Rows) (rs ts : List ℕ) (c : ℕ → ℕ) (k r : ℕ) → Working n width A rs ts c k
-    → k ≤ r → r ≤ n → ((i : ℕ) → k ≤ i → i < r → (j : ℕ) → cell rs width i j ≡ false) → Working n width A rs ts c r
-working_zeros n width A rs ts c k r w least most off = record {
+pub working_next : (n width : ℕ) (A : Rows) (rs ts : List ℕ) (c : ℕ → ℕ) (k r : ℕ) → Working n width A rs ts c k → FirstRow width rs k n r → Working n width A rs ts c r
+working_next n width A rs ts c k r w found = record {
   tracks = w.tracks;
-  stepped = stepped_zeros n (cell rs width) c k r w.stepped (λ i g l. omega (arith, w.waiting i g (omega arith))) (λ i g l j h. off i g l j);
-  waiting = λ i g l. w.waiting i (omega arith) l;
-  columns = λ i l. elim (cases_lt i k) [ inl b ↦ w.columns i b | inr g ↦ omega (arith, w.waiting i g (omega arith)) ];
+  stepped = stepped_zeros n (cell rs width) c k r w.stepped (λ i g l. omega (arith, w.waiting i g (omega (arith, found.most)))) (λ i g l j h. found.before i g l j);
+  waiting = λ i g l. w.waiting i (omega (arith, found.least)) l;
+  columns = λ i l. elim (cases_lt i k) [ inl b ↦ w.columns i b | inr g ↦ omega (arith, w.waiting i g (omega (arith, found.most))) ];
   spare_rows = w.spare_rows;
   spare_done = w.spare_done;
 }
-
-pub working_next : (n width : ℕ) (A : Rows) (rs ts : List ℕ) (c : ℕ → ℕ) (k r : ℕ) → Working n width A rs ts c k → FirstRow width rs k n r → Working n width A rs ts c r
-working_next n width A rs ts c k r w found = working_zeros n width A rs ts c k r w found.least (omega (arith, found.most)) found.before
 
 pub working_block : (n width : ℕ) (A : Rows) (rs ts : List ℕ) (c : ℕ → ℕ) (rs' ts' : List ℕ) (c' : ℕ → ℕ) (k end : ℕ) → k ≤ end
     → Working n width A rs ts c k → BlockReduces n width rs ts c rs' ts' c' k end → Working n width A rs' ts' c' end
@@ -55,17 +50,3 @@ working_block n width A rs ts c rs' ts' c' k end ke w b = record {
   spare_rows = λ h. b.kept.spare_rows (w.spare_rows h);
   spare_done = b.kept.spare_done w.spare_done;
 }
-
--- no row is left that has a bit
-pub working_end : (n width : ℕ) (A : Rows) (rs ts : List ℕ) (c : ℕ → ℕ) (k : ℕ) → k ≤ n → Working n width A rs ts c k → NextRow width rs k n None
-    → InSteps n A (cell rs width) (cell ts width) c
-working_end n width A rs ts c k kn so_far none = record {
-  tracks = w.tracks;
-  pivots = stepped_pivots n (cell rs width) c w.stepped;
-  columns = w.columns;
-  spare_rows = w.spare_rows;
-  spare_done = w.spare_done;
-}
-  where
-    w : Working n width A rs ts c n
-    w = working_zeros n width A rs ts c k n so_far kn (omega arith) none

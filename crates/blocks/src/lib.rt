@@ -18,6 +18,15 @@ const BLOCK: u16 = 6;
 // How many words a table has: a row of at most 16 for each of the 64 choices of a block's rows.
 const TABLE: usize = 1024;
 
+// The rows from `first` to `end`.
+#[derive(Clone, Copy)]
+struct Block {
+    first: u16,
+    end: u16,
+    ghost order: { first ≤ end },
+    ghost few: { end - first ≤ 6 },
+}
+
 // The sums of a block's rows, and of what was done to them.
 #[derive(Drop)]
 struct Tables {
@@ -44,6 +53,9 @@ fn next_row(steps: &Steps, from: u16) -> Option<u16>
     (from..steps.n).find(|i| has_a_bit(steps, *i))
 }
 
+// The four functions from here to `add_entry` take memory and width apart: each works on one matrix and its table, first the rows and then what was done, and a struct
+// for the two would be made anew at each call.
+
 // Row `to` of the table is its row `from` with row `i` of the memory added.
 fn put_sum(table: &mut [u64], memory: &[u64], width: usize, to: usize, from: usize, i: usize)
     requires to { to * width + width ≤ length table.old }
@@ -69,7 +81,7 @@ fn double(table: &mut [u64], memory: &[u64], width: usize, size: usize, i: usize
     }
 }
 
-// The sums of all choices of the block's rows.
+// The sums of all choices of `count` rows of the memory from `first` on.
 fn tabulate(table: &mut [u64], memory: &[u64], width: usize, first: usize, count: usize)
     requires few { count ≤ 6 }
     requires small { first ≤ 1024 }
@@ -95,32 +107,31 @@ fn add_entry(memory: &mut [u64], table: &[u64], width: usize, i: usize, e: usize
 }
 
 impl Tables {
-    // The sums of all choices of the rows from `first` to `end`, and of what was done to them.
-    fn tabulate(&mut self, steps: &Steps, first: u16, end: u16)
-        requires order { first ≤ end }
-        requires few { end - first ≤ 6 }
-        requires within { end ≤ steps.now.n }
-        ensures rows { Tabled self.new.rows steps.now.rows.now (width_of steps.now.n) first (end - first) }
-        ensures done { Tabled self.new.done steps.now.done.now (width_of steps.now.n) first (end - first) }
+    // The sums of all choices of the block's rows, and of what was done to them.
+    fn tabulate(&mut self, steps: &Steps, block: Block)
+        requires { block.end ≤ steps.now.n }
+        ensures rows { Tabled self.new.rows steps.now.rows.now (width_of steps.now.n) block.first (block.end - block.first) }
+        ensures done { Tabled self.new.done steps.now.done.now (width_of steps.now.n) block.first (block.end - block.first) }
     {
         let width = steps.width();
-        let from = first as usize;
-        let count = (end - first) as usize;
-        tabulate(&mut self.rows, steps.rows, width, from, count);
-        tabulate(&mut self.done, steps.done, width, from, count);
+        let first = block.first as usize;
+        let count = (block.end - block.first) as usize;
+        tabulate(&mut self.rows, steps.rows, width, first, count);
+        tabulate(&mut self.done, steps.done, width, first, count);
     }
 }
 
-// The number whose binary digits say which pivots of the rows from `first` to `end` row `i` has set.
-fn entry(steps: &Steps, first: u16, end: u16, i: u16) -> usize
-    requires order { first ≤ end }
-    requires few { end - first ≤ 6 }
-    requires within { end ≤ steps.now.n }
+// The number whose binary digits say which pivots of the block's rows row `i` has set.
+fn entry(steps: &Steps, block: Block, i: u16) -> usize
+    requires within { block.end ≤ steps.now.n }
     requires row { i < steps.now.n }
-    ensures { result ≡ asked steps.now first end i }
+    ensures { result ≡ asked steps.now block.first block.end i }
 {
     let mut e = 0;
-    for column in steps.pivots[first as usize..end as usize].iter().rev() {
+    for column in steps.pivots[block.first as usize..block.end as usize]
+        .iter()
+        .rev()
+    {
         e *= 2;
         if *column < steps.n {
             e += usize::from(steps.has(i, *column));
@@ -129,21 +140,19 @@ fn entry(steps: &Steps, first: u16, end: u16, i: u16) -> usize
     e
 }
 
-// Adds to each row from `low` to `high` the sum that has the same bits in the pivots of the rows from `first` to `end`.
-fn sweep(steps: &mut Steps, tables: &Tables, first: u16, end: u16, low: u16, high: u16)
-    requires order { first ≤ end }
-    requires few { end - first ≤ 6 }
-    requires within { end ≤ steps.old.n }
+// Adds to each row from `low` to `high` the sum that has the same bits in the block's pivots.
+fn sweep(steps: &mut Steps, tables: &Tables, block: Block, low: u16, high: u16)
+    requires within { block.end ≤ steps.old.n }
     requires low { low ≤ high }
     requires high { high ≤ steps.old.n }
-    ensures rows { Swept (width_of steps.old.n) steps.old.rows.now steps.new.rows.now tables.now.rows (asked steps.old first end) low high }
-    ensures done { Swept (width_of steps.old.n) steps.old.done.now steps.new.done.now tables.now.done (asked steps.old first end) low high }
+    ensures rows { Swept (width_of steps.old.n) steps.old.rows.now steps.new.rows.now tables.now.rows (asked steps.old block.first block.end) low high }
+    ensures done { Swept (width_of steps.old.n) steps.old.done.now steps.new.done.now tables.now.done (asked steps.old block.first block.end) low high }
     ensures pivots { steps.new.pivots.now ≡ steps.old.pivots.now }
     ensures place { InPlace steps.old steps.new }
 {
     let width = steps.width();
     for i in low..high {
-        let e = entry(steps, first, end, i);
+        let e = entry(steps, block, i);
         if e != 0 {
             add_entry(steps.rows, &tables.rows, width, i as usize, e);
             add_entry(steps.done, &tables.done, width, i as usize, e);
@@ -152,16 +161,15 @@ fn sweep(steps: &mut Steps, tables: &Tables, first: u16, end: u16, low: u16, hig
 }
 
 // Each row of the block takes its first bit as its pivot, which is cleared from the block's other rows, or is zero.
-fn settle_block(steps: &mut Steps, first: u16, end: u16)
-    requires order { first ≤ end }
-    requires within { end ≤ steps.old.n }
-    ensures settled { BlockSettles steps.old.n (width_of steps.old.n) steps.old.rows.now steps.old.done.now (column_of steps.old.pivots.now) steps.new.rows.now steps.new.done.now (column_of steps.new.pivots.now) first end end }
+fn settle_block(steps: &mut Steps, block: Block)
+    requires { block.end ≤ steps.old.n }
+    ensures settled { BlockSettles steps.old.n (width_of steps.old.n) steps.old.rows.now steps.old.done.now (column_of steps.old.pivots.now) steps.new.rows.now steps.new.done.now (column_of steps.new.pivots.now) block.first block.end block.end }
     ensures place { InPlace steps.old steps.new }
 {
-    for t in first..end {
+    for t in block.first..block.end {
         let pivot = match steps.first_bit(t) {
             Some(column) => {
-                steps.clear_column(first, end, t, column);
+                steps.clear_column(block.first, block.end, t, column);
                 column
             }
             None => steps.n,
@@ -171,17 +179,15 @@ fn settle_block(steps: &mut Steps, first: u16, end: u16)
 }
 
 // Each row of the block takes a pivot, which is cleared from all other rows, or is zero.
-fn reduce_block(steps: &mut Steps, tables: &mut Tables, first: u16, end: u16)
-    requires order { first ≤ end }
-    requires few { end - first ≤ 6 }
-    requires within { end ≤ steps.old.n }
-    ensures reduced { BlockReduces steps.old.n (width_of steps.old.n) steps.old.rows.now steps.old.done.now (column_of steps.old.pivots.now) steps.new.rows.now steps.new.done.now (column_of steps.new.pivots.now) first end }
+fn reduce_block(steps: &mut Steps, tables: &mut Tables, block: Block)
+    requires { block.end ≤ steps.old.n }
+    ensures reduced { BlockReduces steps.old.n (width_of steps.old.n) steps.old.rows.now steps.old.done.now (column_of steps.old.pivots.now) steps.new.rows.now steps.new.done.now (column_of steps.new.pivots.now) block.first block.end }
     ensures place { InPlace steps.old steps.new }
 {
-    settle_block(steps, first, end);
-    tables.tabulate(steps, first, end);
-    sweep(steps, tables, first, end, 0, first);
-    sweep(steps, tables, first, end, end, steps.n);
+    settle_block(steps, block);
+    tables.tabulate(steps, block);
+    sweep(steps, tables, block, 0, block.first);
+    sweep(steps, tables, block, block.end, steps.n);
 }
 
 // Brings the rows into reduced steps; `done` says of which rows each is the sum, and `pivots` which column each owns, or `n`.
@@ -200,7 +206,7 @@ pub fn bring_into_steps(steps: &mut Steps)
     let mut from = 0;
     while let Some(first) = next_row(steps, from) {
         let end = steps.n.min(first + BLOCK);
-        reduce_block(steps, &mut tables, first, end);
+        reduce_block(steps, &mut tables, Block { first, end });
         from = end;
     }
 }

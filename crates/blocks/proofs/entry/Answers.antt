@@ -14,13 +14,13 @@ pub overflow_mul-e : goal.overflow_mul-e
 overflow_mul-e c =
     let s = c.args.steps.now in
     let (read, all, is) = c.loop-column.invariant in
-    omega (arith, is, read_below s.n (width_of s.n) s.rows.now _ read s.pivots.now c.args.first c.args.end c.args.i c.requires.few all)
+    omega (arith, is, read_below s.n (width_of s.n) s.rows.now _ read s.pivots.now c.args.block.first c.args.block.end c.args.i c.args.block.few all)
 
 pub overflow_add-e : goal.overflow_add-e
 overflow_add-e c =
     let s = c.args.steps.now in
     let (read, all, is) = c.loop-column.invariant in
-    omega (arith, is, c.from-e.ensures, digit_small c.has.result, read_below s.n (width_of s.n) s.rows.now _ read s.pivots.now c.args.first c.args.end c.args.i c.requires.few all)
+    omega (arith, is, c.from-e.ensures, digit_small c.has.result, read_below s.n (width_of s.n) s.rows.now _ read s.pivots.now c.args.block.first c.args.block.end c.args.i c.args.block.few all)
 
 pub loop-column-preserved-then-column-steps : goal.loop-column-preserved-then-column-steps
 loop-column-preserved-then-column-steps c =

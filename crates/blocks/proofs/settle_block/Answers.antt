@@ -6,7 +6,7 @@ use Rattle.echelon.specs.Steps.{column_of, Clearing}
 use Rattle.echelon.specs.Places.{InPlace}
 use Rattle.echelon.proofs.Places.{in_place_both}
 use Rattle.blocks.specs.Said.{BlockSettles}
-use Rattle.blocks.proofs.Block.{settles_zero, settles_pivot}
+use Rattle.blocks.proofs.Reduce.{settles_zero, settles_pivot}
 use Rattle.blocks.proofs.settle_block.Goals as goal
 use Rattle.blocks.proofs.settle_block.Goals.{in-Some, in-None}
 
@@ -20,9 +20,9 @@ loop-t-preserved c =
     let inv = c.loop-t.invariant in
     let n : s₁.n ≡ s₀.n = inv.1.n in
     let ft = c.loop-t.auto.t in
-    let te : t < c.args.end = omega arith in
+    let te : t < c.args.block.end = omega arith in
     let Done : Steps → ℕ → Type 0 = λ s x.
-    BlockSettles s₀.n (width_of s₀.n) s₀.rows.now s₀.done.now (column_of s₀.pivots.now) s.rows.now s.done.now (column_of (set s.pivots.now t x)) c.args.first (t + 1) c.args.end
+    BlockSettles s₀.n (width_of s₀.n) s₀.rows.now s₀.done.now (column_of s₀.pivots.now) s.rows.now s.done.now (column_of (set s.pivots.now t x)) c.args.block.first (t + 1) c.args.block.end
     × InPlace s₀ s in
     let at : (s : Steps) (x : ℕ) → s' ≡ s → x' ≡ x → Done s x → Done s' x' = λ s x p q h. subst (λ z. Done z x') (sym p) (subst (Done s) (sym q) h) in
     let within : t < length s₁.pivots.now = omega (arith, s₁.pivots_long) in
@@ -36,29 +36,25 @@ loop-t-preserved c =
           let x = w.in-Some.column in
           let clear = w.clear_column.ensures in
           let bit = subst (FirstSet _ _) w.in-Some.is first in
-          let cleared : Clearing (width_of s₀.n) s₁.rows.now s₁.done.now s₂.rows.now s₂.done.now c.args.first c.args.end t x =
-          subst (λ m. Clearing (width_of m) s₁.rows.now s₁.done.now s₂.rows.now s₂.done.now c.args.first c.args.end t x) n clear.cleared in
+          let cleared : Clearing (width_of s₀.n) s₁.rows.now s₁.done.now s₂.rows.now s₂.done.now c.args.block.first c.args.block.end t x =
+          subst (λ m. Clearing (width_of m) s₁.rows.now s₁.done.now s₂.rows.now s₂.done.now c.args.block.first c.args.block.end t x) n clear.cleared in
           at _ _ w.steps-is w.pivot-is (
-            subst (λ cs. BlockSettles s₀.n (width_of s₀.n) s₀.rows.now s₀.done.now (column_of s₀.pivots.now) s₂.rows.now s₂.done.now (column_of (set cs t x)) c.args.first (t + 1) c.args.end)
+            subst (λ cs. BlockSettles s₀.n (width_of s₀.n) s₀.rows.now s₀.done.now (column_of s₀.pivots.now) s₂.rows.now s₂.done.now (column_of (set cs t x)) c.args.block.first (t + 1) c.args.block.end)
                 (sym clear.pivots)
-                (settles_pivot _ _ _ _ _ _ _ _ _ _ _ _ x ft te c.requires.within inv.0 (omega arith) (here x) (other x) bit _ _ cleared),
+                (settles_pivot _ _ _ _ _ _ _ _ _ _ _ _ x ft te c.requires inv.0 (omega arith) (here x) (other x) bit _ _ cleared),
             in_place_both _ _ _ inv.1 clear.place,
           )
       | in-None w ↦ at _ _ w.steps-is w.pivot-is (
-        settles_zero _ _ _ _ _ _ _ _ _ _ _ _ s₁.n ft te c.requires.within inv.0 (omega arith) (here s₁.n) (other s₁.n) (omega arith) (subst (FirstSet _ _) w.in-None.is first),
+        settles_zero _ _ _ _ _ _ _ _ _ _ _ _ s₁.n ft te c.requires inv.0 (omega arith) (here s₁.n) (other s₁.n) (omega arith) (subst (FirstSet _ _) w.in-None.is first),
         inv.1,
       )
     ] in
     let place = done.1 in
     (done.0, record { n = place.n; rows = place.rows; done = place.done; pivots = place.pivots })
 
-pub returns : goal.returns
-returns c =
-    let all : c.loop-t.t ≡ c.args.end = omega arith in
+pub returns-clause-settled : goal.returns-clause-settled
+returns-clause-settled c =
+    let all : c.loop-t.t ≡ c.args.block.end = omega arith in
     let s₀ = c.args.steps.now in
-    let inv = c.loop-t.invariant in
-    record {
-      settled = subst (λ t. BlockSettles s₀.n (width_of s₀.n) s₀.rows.now s₀.done.now (column_of s₀.pivots.now)
-          c.loop-t.steps.rows.now c.loop-t.steps.done.now (column_of c.loop-t.steps.pivots.now) c.args.first t c.args.end) all inv.0;
-      place = inv.1;
-    }
+    subst (λ t. BlockSettles s₀.n (width_of s₀.n) s₀.rows.now s₀.done.now (column_of s₀.pivots.now)
+    c.loop-t.steps.rows.now c.loop-t.steps.done.now (column_of c.loop-t.steps.pivots.now) c.args.block.first t c.args.block.end) all c.loop-t.invariant.0

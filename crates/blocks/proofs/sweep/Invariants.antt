@@ -6,6 +6,6 @@ use Rattle.blocks.proofs.sweep.Given as goal
 
 abbrev pub invariant-loop-i : goal.invariant-loop-i
 invariant-loop-i l =
-    Swept (width_of l.initial.steps.n) l.initial.steps.rows.now l.steps.rows.now l.tables.rows (asked l.initial.steps l.first l.end) l.low l.i
-    × Swept (width_of l.initial.steps.n) l.initial.steps.done.now l.steps.done.now l.tables.done (asked l.initial.steps l.first l.end) l.low l.i
+    Swept (width_of l.initial.steps.n) l.initial.steps.rows.now l.steps.rows.now l.tables.rows (asked l.initial.steps l.block.first l.block.end) l.low l.i
+    × Swept (width_of l.initial.steps.n) l.initial.steps.done.now l.steps.done.now l.tables.done (asked l.initial.steps l.block.first l.block.end) l.low l.i
     × (l.steps.pivots.now ≡ l.initial.steps.pivots.now) × InPlace l.initial.steps l.steps

@@ -1,27 +1,18 @@
 -- A block's rows take their pivots among themselves, and then the pivots are cleared from the other rows. Assumes nothing.
-use Rattle.std.proofs.Common.{◌≡◌, ℕ, ◌+◌, ◌-◌, ◌<◌, ◌≤◌, false, ◌&&◌, ltb, ◌≢◌, ◌⊎◌, List, length, drop, sym, refl, ap, ◌∙◌, subst, ap₂, inl, inr, arith, length-drop, length-take, get_or-drop, get_or-take}
+use Rattle.std.proofs.Common.{◌≡◌, ℕ, ◌+◌, ◌-◌, ◌<◌, ◌≤◌, false, ◌&&◌, ltb, ◌≢◌, ◌⊎◌, List, length, drop, sym, ap, ◌∙◌, subst, ap₂, inl, inr, arith, length-drop, length-take, get_or-drop, get_or-take}
 use Rattle.std.proofs.lemmas.Bool.{cases_eq}
 use Rattle.gf2.specs.Blocks.{Sweeps}
-use Rattle.gf2.proofs.Blocks.{stepping_start, stepping_none, stepping_pivot, stepped_sweep}
+use Rattle.gf2.proofs.Blocks.{stepping_none, stepping_pivot, stepped_sweep}
 use Rattle.bits.specs.Said.{First}
 use Rattle.matrix.specs.Cells.{width_of, cell}
 use Rattle.echelon.specs.declared.steps.Steps.{Steps}
 use Rattle.echelon.specs.Steps.{column_of, Clearing}
 use Rattle.echelon.specs.Places.{InPlace}
-use Rattle.echelon.proofs.Kept.{kept_none, kept_both}
+use Rattle.echelon.proofs.Kept.{kept_both}
 use Rattle.blocks.specs.Said.{block_of, number, hits, entry_of, asked, Tabled, Swept, BlockSettles, BlockReduces}
 use Rattle.blocks.proofs.Swept.{same_entry, swept_sweeps, kept_sweep}
 
 -- ---- one turn of the loop over the block's rows
-
-pub settles_none : (n width : ℕ) (rs ts : List ℕ) (c : ℕ → ℕ) (first end : ℕ) → BlockSettles n width rs ts c rs ts c first first end
-settles_none n width rs ts c first end = record {
-  kept = kept_none n _ _;
-  column = λ i g l. absurd (omega arith);
-  columns = λ i o. refl;
-  others = λ i o j. refl;
-  steps = stepping_start n (cell rs width) c first end;
-}
 
 module _ (n width : ℕ) (rs ts : List ℕ) (c : ℕ → ℕ) (rs₁ ts₁ : List ℕ) (c₁ c₂ : ℕ → ℕ) (first t end x : ℕ) (ft : first ≤ t) (te : t < end) (en : end ≤ n)
     (so_far : BlockSettles n width rs ts c rs₁ ts₁ c₁ first t end) (xn : x ≤ n)
@@ -71,7 +62,7 @@ block_at cs first end b l = get_or-take (end - first) (drop first cs) b 0 l ∙ 
 module _ (n width : ℕ) (rs ts : List ℕ) (c : ℕ → ℕ) (rs₁ ts₁ cs columns rs₂ ts₂ rs₃ ts₃ row_sums done_sums : List ℕ) (first count : ℕ) (fits : first + count ≤ n)
     (long : length columns ≡ count) (at : (b : ℕ) → b < count → column_of columns b ≡ column_of cs (first + b))
     (e₁ e₂ : ℕ → ℕ) (is₁ : (i : ℕ) → e₁ i ≡ entry_of n width rs₁ columns i) (is₂ : (i : ℕ) → e₂ i ≡ entry_of n width rs₂ columns i) where
-  pub reduces_block : BlockSettles n width rs ts c rs₁ ts₁ (column_of cs) first (first + count) (first + count)
+  reduces_block : BlockSettles n width rs ts c rs₁ ts₁ (column_of cs) first (first + count) (first + count)
       → Tabled row_sums rs₁ width first count → Tabled done_sums ts₁ width first count
       → Swept width rs₁ rs₂ row_sums e₁ 0 first → Swept width ts₁ ts₂ done_sums e₁ 0 first
       → Swept width rs₂ rs₃ row_sums e₂ (first + count) n → Swept width ts₂ ts₃ done_sums e₂ (first + count) n
