@@ -53,8 +53,8 @@ fn next_row(steps: &Steps, from: u16) -> Option<u16>
     (from..steps.n).find(|i| has_a_bit(steps, *i))
 }
 
-// The four functions from here to `add_entry` take memory and width apart: each works on one matrix and its table, first the rows and then what was done, and a struct
-// for the two would be made anew at each call.
+// The four functions from here to `add_entry` take a table, a matrix and their width one by one: each works on the rows first and then on what was done, and a struct of the
+// three would be made anew at each call.
 
 // Row `to` of the table is its row `from` with row `i` of the memory added.
 fn put_sum(table: &mut [u64], memory: &[u64], width: usize, to: usize, from: usize, i: usize)
@@ -134,6 +134,7 @@ fn entry(steps: &Steps, block: Block, i: u16) -> usize
     {
         e *= 2;
         if *column < steps.n {
+            // added, and not tested by an `if`: the bits are as good as random, and a branch on them is guessed wrong half the time
             e += usize::from(steps.has(i, *column));
         }
     }
