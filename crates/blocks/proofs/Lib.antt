@@ -1,5 +1,5 @@
 pub mod Search
 pub mod Table
 pub mod Swept
-pub mod Block
+pub mod Reduce
 pub mod Whole

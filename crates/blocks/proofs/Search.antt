@@ -1,19 +1,26 @@
 -- The search for a row with a bit set, word by word. Assumes nothing.
-use Rattle.std.proofs.Common.{◌≡◌, ℕ, ◌+◌, ◌*◌, ◌^◌, ◌<◌, true, false, List, get_or, ap, ◌∙◌, arith, length-take}
-use Rattle.bits.specs.Bits.{bit}
+use Rattle.std.proofs.Common.{◌≡◌, ℕ, ◌+◌, ◌*◌, ◌^◌, ◌<◌, ◌≤◌, ◌≢◌, Bool, true, false, List, Option, Some, None, MatchBool, MatchOption, length, ◌∙◌, zero-le}
+use Rattle.std.specs.List.{AllWithin, HoldsAt}
+use Rattle.bits.specs.Bits.{bit_of}
 use Rattle.bits.proofs.Words.{some_bit}
 use Rattle.bits.proofs.Rows.{bit_of_word, zero_words}
-use Rattle.matrix.specs.Cells.{row_of, cell}
-use Rattle.matrix.proofs.Memory.{getD_row}
+use Rattle.matrix.specs.Cells.{cell}
+use Rattle.blocks.specs.Said.{HasABit, NextRow}
 
-module _ (ws : List ℕ) (width i : ℕ) where
-  pub zero_row : ((p : ℕ) → p < width → get_or ws (i * width + p) 0 ≡ 0) → (j : ℕ) → cell ws width i j ≡ false
-  zero_row zeros = zero_words (row_of ws width i) (λ k l. each k (omega (arith, simp length-take at l)))
-    where
-      each : (k : ℕ) → k < width → get_or (row_of ws width i) k 0 ≡ 0
-      each k l = getD_row ws width i k l ∙ zeros k l
+-- what `any` says of a row's words
+pub some_word : (ws : List ℕ) (r : Bool)
+    → MatchBool r ((k : ℕ) × (k < length ws) × HoldsAt (λ w. (w ≢ 0) × (w < 2 ^ 64)) ws k) (AllWithin (λ w. w ≡ 0) ws 0 (length ws))
+    → HasABit (bit_of ws) r
+some_word ws true h =
+    let word = h.2 0 in
+    let found = some_bit 64 _ word.1 word.0 in
+    (64 * h.0 + found.0, bit_of_word ws h.0 found.0 found.1 ∙ found.2)
+some_word ws false h = zero_words ws (λ k l. h k 0 zero-le l)
 
-  pub some_cell : (q : ℕ) → q < width → get_or ws (i * width + q) 0 < 2 ^ 64 → (get_or ws (i * width + q) 0 ≡ 0 → ⊥) → (j : ℕ) × (cell ws width i j ≡ true)
-  some_cell q l fits ne =
-      let found = some_bit 64 (get_or ws (i * width + q) 0) fits ne in
-      (64 * q + found.0, bit_of_word (row_of ws width i) q found.0 found.1 ∙ ap (λ w. bit w found.0) (getD_row ws width i q l) ∙ found.2)
+-- what `find` says of the rows
+pub some_row : (width : ℕ) (ws : List ℕ) (from to : ℕ) (r : Option ℕ)
+    → MatchOption r ((i : ℕ) → from ≤ i → i < to → HasABit (cell ws width i) false)
+    (λ i. (from ≤ i) × (i < to) × HasABit (cell ws width i) true × ((k : ℕ) → from ≤ k → k < i → HasABit (cell ws width k) false))
+    → NextRow width ws from to r
+some_row width ws from to (Some r) h = record { least = h.0; most = h.1; here = h.2; before = h.3 }
+some_row width ws from to None h = h

@@ -5,11 +5,10 @@ use Rattle.gf2.specs.Rows.{Rows}
 use Rattle.gf2.specs.Reduction.{Tracks}
 use Rattle.gf2.specs.Blocks.{Stepped}
 use Rattle.gf2.proofs.Tracks.{tracks_start}
-use Rattle.gf2.proofs.Blocks.{stepped_none, stepped_zeros, stepped_pivots}
+use Rattle.gf2.proofs.Blocks.{stepped_none, stepped_zeros}
 use Rattle.matrix.specs.Cells.{cell, Spare}
 use Rattle.matrix.specs.Said.{Identity}
-use Rattle.echelon.specs.Steps.{InSteps}
-use Rattle.blocks.specs.Said.{NextRow, BlockReduces}
+use Rattle.blocks.specs.Said.{FirstRow, BlockReduces}
 
 -- the first k rows have their pivots, and the others none yet
 pub record Working (n width : ℕ) (A : Rows) (rs ts : List ℕ) (c : ℕ → ℕ) (k : ℕ) : Type 0 where
@@ -31,7 +30,7 @@ working_start n width rs ts c id none_yet = record {
 }
 
 -- rows without a bit are passed by
-pub working_next : (n width : ℕ) (A : Rows) (rs ts : List ℕ) (c : ℕ → ℕ) (k r : ℕ) → Working n width A rs ts c k → NextRow width rs k n r → Working n width A rs ts c r
+pub working_next : (n width : ℕ) (A : Rows) (rs ts : List ℕ) (c : ℕ → ℕ) (k r : ℕ) → Working n width A rs ts c k → FirstRow width rs k n r → Working n width A rs ts c r
 working_next n width A rs ts c k r w found = record {
   tracks = w.tracks;
   stepped = stepped_zeros n (cell rs width) c k r w.stepped (λ i g l. omega (arith, w.waiting i g (omega (arith, found.most)))) (λ i g l j h. found.before i g l j);
@@ -50,13 +49,4 @@ working_block n width A rs ts c rs' ts' c' k end ke w b = record {
   columns = λ i l. elim (cases_lt i k) [ inl h ↦ subst (λ z. z ≤ n) (sym (b.columns i (inl h))) (w.columns i h) | inr g ↦ b.column i g l ];
   spare_rows = λ h. b.kept.spare_rows (w.spare_rows h);
   spare_done = b.kept.spare_done w.spare_done;
-}
-
-pub working_end : (n width : ℕ) (A : Rows) (rs ts : List ℕ) (c : ℕ → ℕ) → Working n width A rs ts c n → InSteps n A (cell rs width) (cell ts width) c
-working_end n width A rs ts c w = record {
-  tracks = w.tracks;
-  pivots = stepped_pivots n (cell rs width) c w.stepped;
-  columns = w.columns;
-  spare_rows = w.spare_rows;
-  spare_done = w.spare_done;
 }

@@ -1,17 +1,28 @@
 -- What the steps of elimination by blocks do in memory: rs and ts are the rows and what was done before, rs' and ts' after. A block is `count` rows from `first` on.
 -- Assumes nothing: these are definitions.
-use Rattle.std.specs.Prelude.{◌≡◌, ℕ, zero, suc, ◌+◌, ◌^◌, ◌<◌, ◌≤◌, true, false, ◌&&◌, ◌⊎◌, List, length, nat_lt}
+use Rattle.std.specs.Prelude.{◌≡◌, ℕ, zero, suc, ◌+◌, ◌-◌, ◌^◌, ◌<◌, ◌≤◌, Bool, true, false, ◌&&◌, ◌⊎◌, List, length, take, drop, Option, Some, None, nat_lt}
 use Rattle.gf2.specs.Rows.{pick, differ, Row, dot}
 use Rattle.gf2.specs.Blocks.{Stepped, Stepping}
-use Rattle.matrix.specs.Cells.{cell}
+use Rattle.matrix.specs.Cells.{width_of, cell}
 use Rattle.echelon.specs.Steps.{column_of, Kept}
+use Rattle.echelon.specs.declared.steps.Steps.{Steps}
 
--- r is the first row from `from` on that has a bit set, or `to`
-pub record NextRow (width : ℕ) (ws : List ℕ) (from to r : ℕ) : Type 0 where
+-- some bit of the row is set
+abbrev pub HasABit : Row → Bool → Type 0
+HasABit row true = (j : ℕ) × (row j ≡ true)
+HasABit row false = (j : ℕ) → row j ≡ false
+
+-- r is the first row from `from` on, below `to`, that has a bit set
+pub record FirstRow (width : ℕ) (ws : List ℕ) (from to r : ℕ) : Type 0 where
   pub least : from ≤ r
-  pub most : r ≤ to
+  pub most : r < to
   pub before : (i : ℕ) → from ≤ i → i < r → (j : ℕ) → cell ws width i j ≡ false
-  pub here : r < to → (j : ℕ) × (cell ws width r j ≡ true)
+  pub here : HasABit (cell ws width r) true
+
+-- the first row from `from` on, below `to`, that has a bit set; or none, where none has
+abbrev pub NextRow : ℕ → List ℕ → ℕ → ℕ → Option ℕ → Type 0
+NextRow width ws from to (Some r) = FirstRow width ws from to r
+NextRow width ws from to None = (i : ℕ) → from ≤ i → i < to → (j : ℕ) → cell ws width i j ≡ false
 
 -- the number whose first binary digits w has, the lowest first
 abbrev pub number : Row → ℕ → ℕ
@@ -27,6 +38,10 @@ pub record Doubled (old new : List ℕ) (width size m : ℕ) (row : Row) : Type 
   pub added : (e : ℕ) → e < m → (j : ℕ) → cell new width (size + e) j ≡ differ (cell old width e j) (row j)
   pub others : (i : ℕ) → (i < size) ⊎ (size + m ≤ i) → (j : ℕ) → cell new width i j ≡ cell old width i j
 
+-- the columns of the rows from `first` to `end`
+abbrev pub block_of : List ℕ → ℕ → ℕ → List ℕ
+block_of cs first end = take (end - first) (drop first cs)
+
 -- which of the columns row i has set; a column from n on is none
 abbrev pub hits : ℕ → ℕ → List ℕ → List ℕ → ℕ → Row
 hits n width ws columns i b = nat_lt (column_of columns b) n && cell ws width i (column_of columns b)
@@ -34,6 +49,10 @@ hits n width ws columns i b = nat_lt (column_of columns b) n && cell ws width i 
 -- the row of the table that row i asks for
 abbrev pub entry_of : ℕ → ℕ → List ℕ → List ℕ → ℕ → ℕ
 entry_of n width ws columns i = number (hits n width ws columns i) (length columns)
+
+-- the row of the table that row i of the steps asks for, where the block is the rows from `first` to `end`
+abbrev pub asked : Steps → ℕ → ℕ → ℕ → ℕ
+asked s first end i = entry_of s.n (width_of s.n) s.rows.now (block_of s.pivots.now first end) i
 
 -- each row i from `low` to `high` has row `e i` of the table added, if the table's row 0 is off; and all else is as it was
 pub record Swept (width : ℕ) (old new table : List ℕ) (e : ℕ → ℕ) (low high : ℕ) : Type 0 where

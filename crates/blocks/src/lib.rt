@@ -2,18 +2,30 @@
 // of all such sums (the method of the four Russians).
 #![tactic(auto)]
 
-ghost use Rattle.std.specs.Prelude.{◌≡◌, ◌+◌, ◌*◌, ◌/◌, ◌^◌, ◌<◌, ◌≤◌, length, ◌≢◌};
+ghost use Rattle.std.specs.Prelude.{◌≡◌, ◌+◌, ◌-◌, ◌*◌, ◌^◌, ◌<◌, ◌≤◌, length, ◌≢◌};
 ghost use Rattle.gf2.specs.Rows.{sum};
-ghost use Rattle.matrix.specs.Cells.{cell};
+ghost use Rattle.matrix.specs.Cells.{width_of, cell};
 ghost use Rattle.matrix.specs.Said.{RowPut};
 ghost use Rattle.echelon.specs.Steps.{column_of, InSteps};
-ghost use Rattle.blocks.specs.Said.{entry_of, NextRow, Tabled, Doubled, Swept, BlockSettles, BlockReduces};
+ghost use Rattle.echelon.specs.Places.{InPlace};
+ghost use Rattle.blocks.specs.Said.{HasABit, asked, NextRow, Tabled, Doubled, Swept, BlockSettles, BlockReduces};
+
+use echelon::Steps;
 
 // How many rows a block has.
-const BLOCK: usize = 6;
+const BLOCK: u16 = 6;
 
 // How many words a table has: a row of at most 16 for each of the 64 choices of a block's rows.
 const TABLE: usize = 1024;
+
+// The rows from `first` to `end`.
+#[derive(Clone, Copy)]
+struct Block {
+    first: u16,
+    end: u16,
+    ghost order: { first ≤ end },
+    ghost few: { end - first ≤ 6 },
+}
 
 // The sums of a block's rows, and of what was done to them.
 #[derive(Drop)]
@@ -22,24 +34,27 @@ struct Tables {
     done: [u64; TABLE],
 }
 
-// The first row from `from` on that has a bit set, or `to`.
-fn next_row(memory: &[u64], width: usize, from: usize, to: usize) -> usize
-    requires fits { to * width ≤ length memory.now }
-    requires order { from ≤ to }
-    ensures { NextRow width memory.now from to result }
+// Whether row `i` has a bit set, in any of its words.
+fn has_a_bit(steps: &Steps, i: u16) -> bool
+    requires { i < steps.now.n }
+    ensures { HasABit (cell steps.now.rows.now (width_of steps.now.n) i) result }
 {
-    let mut found = to;
-    'rows: for i in from..to {
-        let start = i * width;
-        for q in 0..width {
-            if memory[start + q] != 0 {
-                found = i;
-                break 'rows;
-            }
-        }
-    }
-    found
+    let width = steps.width();
+    let start = i as usize * width;
+    steps.rows[start..start + width]
+        .iter()
+        .any(|word| *word != 0)
 }
+
+// The first row from `from` on that has a bit set.
+fn next_row(steps: &Steps, from: u16) -> Option<u16>
+    ensures { NextRow (width_of steps.now.n) steps.now.rows.now from steps.now.n result }
+{
+    (from..steps.n).find(|i| has_a_bit(steps, *i))
+}
+
+// The four functions from here to `add_entry` take a table, a matrix and their width one by one: each works on the rows first and then on what was done, and a struct of the
+// three would be made anew at each call.
 
 // Row `to` of the table is its row `from` with row `i` of the memory added.
 fn put_sum(table: &mut [u64], memory: &[u64], width: usize, to: usize, from: usize, i: usize)
@@ -66,7 +81,7 @@ fn double(table: &mut [u64], memory: &[u64], width: usize, size: usize, i: usize
     }
 }
 
-// The sums of all choices of the block's rows.
+// The sums of all choices of `count` rows of the memory from `first` on.
 fn tabulate(table: &mut [u64], memory: &[u64], width: usize, first: usize, count: usize)
     requires few { count ≤ 6 }
     requires small { first ≤ 1024 }
@@ -75,31 +90,9 @@ fn tabulate(table: &mut [u64], memory: &[u64], width: usize, first: usize, count
     ensures { Tabled table.new memory.now width first count }
 {
     matrix::clear_row(table, width, 0);
-    let mut size = 1;
     for b in 0..count {
-        double(table, memory, width, size, first + b);
-        size *= 2;
+        double(table, memory, width, 1 << b, first + b);
     }
-}
-
-// The number whose binary digits say which of the columns row `i` has set.
-fn entry(rows: &[u64], columns: &[u16], width: usize, n: usize, i: usize) -> usize
-    requires few { length columns.now ≤ 6 }
-    requires wide { n ≤ 64 * width }
-    requires row { i * width + width ≤ length rows.now }
-    ensures { result ≡ entry_of n width rows.now columns.now i }
-{
-    let mut e = 0;
-    let mut unit = 1;
-    for column in columns {
-        if (*column as usize) < n {
-            if matrix::has(rows, width, i, *column) {
-                e += unit;
-            }
-        }
-        unit *= 2;
-    }
-    e
 }
 
 // Adds row `e` of the table to row `i` of the memory.
@@ -113,113 +106,108 @@ fn add_entry(memory: &mut [u64], table: &[u64], width: usize, i: usize, e: usize
     bits::xor_into(&mut memory[to..to + width], &table[from..from + width]);
 }
 
-// Adds to each row from `low` to `high` the sum that has the same bits in the columns.
-fn sweep(
-    rows: &mut [u64],
-    done: &mut [u64],
-    columns: &[u16],
-    tables: &Tables,
-    width: usize,
-    n: usize,
-    low: usize,
-    high: usize,
-)
-    requires few { length columns.now ≤ 6 }
-    requires wide { n ≤ 64 * width }
-    requires narrow { width ≤ 16 }
-    requires order { low ≤ high }
-    requires rows { high * width ≤ length rows.old }
-    requires done { high * width ≤ length done.old }
-    ensures rows { Swept width rows.old rows.new tables.now.rows (entry_of n width rows.old columns.now) low high }
-    ensures done { Swept width done.old done.new tables.now.done (entry_of n width rows.old columns.now) low high }
+impl Tables {
+    // The sums of all choices of the block's rows, and of what was done to them.
+    fn tabulate(&mut self, steps: &Steps, block: Block)
+        requires { block.end ≤ steps.now.n }
+        ensures rows { Tabled self.new.rows steps.now.rows.now (width_of steps.now.n) block.first (block.end - block.first) }
+        ensures done { Tabled self.new.done steps.now.done.now (width_of steps.now.n) block.first (block.end - block.first) }
+    {
+        let width = steps.width();
+        let first = block.first as usize;
+        let count = (block.end - block.first) as usize;
+        tabulate(&mut self.rows, steps.rows, width, first, count);
+        tabulate(&mut self.done, steps.done, width, first, count);
+    }
+}
+
+// The number whose binary digits say which pivots of the block's rows row `i` has set.
+fn entry(steps: &Steps, block: Block, i: u16) -> usize
+    requires within { block.end ≤ steps.now.n }
+    requires row { i < steps.now.n }
+    ensures { result ≡ asked steps.now block.first block.end i }
 {
+    let mut e = 0;
+    for column in steps.pivots[block.first as usize..block.end as usize]
+        .iter()
+        .rev()
+    {
+        e *= 2;
+        if *column < steps.n {
+            // added, and not tested by an `if`: the bits are as good as random, and a branch on them is guessed wrong half the time
+            e += usize::from(steps.has(i, *column));
+        }
+    }
+    e
+}
+
+// Adds to each row from `low` to `high` the sum that has the same bits in the block's pivots.
+fn sweep(steps: &mut Steps, tables: &Tables, block: Block, low: u16, high: u16)
+    requires within { block.end ≤ steps.old.n }
+    requires low { low ≤ high }
+    requires high { high ≤ steps.old.n }
+    ensures rows { Swept (width_of steps.old.n) steps.old.rows.now steps.new.rows.now tables.now.rows (asked steps.old block.first block.end) low high }
+    ensures done { Swept (width_of steps.old.n) steps.old.done.now steps.new.done.now tables.now.done (asked steps.old block.first block.end) low high }
+    ensures pivots { steps.new.pivots.now ≡ steps.old.pivots.now }
+    ensures place { InPlace steps.old steps.new }
+{
+    let width = steps.width();
     for i in low..high {
-        let e = entry(rows, columns, width, n, i);
+        let e = entry(steps, block, i);
         if e != 0 {
-            add_entry(rows, &tables.rows, width, i, e);
-            add_entry(done, &tables.done, width, i, e);
+            add_entry(steps.rows, &tables.rows, width, i as usize, e);
+            add_entry(steps.done, &tables.done, width, i as usize, e);
         }
     }
 }
 
 // Each row of the block takes its first bit as its pivot, which is cleared from the block's other rows, or is zero.
-fn settle_block(
-    rows: &mut [u64],
-    done: &mut [u64],
-    pivots: &mut [u16],
-    width: usize,
-    n: u16,
-    first: usize,
-    end: usize,
-)
-    requires narrow { width ≤ 16 }
-    requires wide { n ≤ 64 * width }
-    requires rows { n * width ≤ length rows.old }
-    requires done { n * width ≤ length done.old }
-    requires pivots { n ≤ length pivots.old }
-    requires order { first ≤ end }
-    requires within { end ≤ n }
-    ensures { BlockSettles n width rows.old done.old (column_of pivots.old) rows.new done.new (column_of pivots.new) first end end }
+fn settle_block(steps: &mut Steps, block: Block)
+    requires { block.end ≤ steps.old.n }
+    ensures settled { BlockSettles steps.old.n (width_of steps.old.n) steps.old.rows.now steps.old.done.now (column_of steps.old.pivots.now) steps.new.rows.now steps.new.done.now (column_of steps.new.pivots.now) block.first block.end block.end }
+    ensures place { InPlace steps.old steps.new }
 {
-    for t in first..end {
-        let column = matrix::first_bit(rows, width, n, t);
-        if column < n {
-            echelon::clear_column(rows, done, width, first, end, t, column);
-        }
-        pivots[t] = column;
+    for t in block.first..block.end {
+        let pivot = match steps.first_bit(t) {
+            Some(column) => {
+                steps.clear_column(block.first, block.end, t, column);
+                column
+            }
+            None => steps.n,
+        };
+        steps.pivots[t as usize] = pivot;
     }
 }
 
 // Each row of the block takes a pivot, which is cleared from all other rows, or is zero.
-fn reduce_block(
-    rows: &mut [u64],
-    done: &mut [u64],
-    pivots: &mut [u16],
-    tables: &mut Tables,
-    width: usize,
-    n: u16,
-    first: usize,
-    count: usize,
-)
-    requires few { count ≤ 6 }
-    requires small { n ≤ 1024 }
-    requires narrow { width ≤ 16 }
-    requires wide { n ≤ 64 * width }
-    requires rows { n * width ≤ length rows.old }
-    requires done { n * width ≤ length done.old }
-    requires pivots { n ≤ length pivots.old }
-    requires within { first + count ≤ n }
-    ensures { BlockReduces n width rows.old done.old (column_of pivots.old) rows.new done.new (column_of pivots.new) first (first + count) }
+fn reduce_block(steps: &mut Steps, tables: &mut Tables, block: Block)
+    requires { block.end ≤ steps.old.n }
+    ensures reduced { BlockReduces steps.old.n (width_of steps.old.n) steps.old.rows.now steps.old.done.now (column_of steps.old.pivots.now) steps.new.rows.now steps.new.done.now (column_of steps.new.pivots.now) block.first block.end }
+    ensures place { InPlace steps.old steps.new }
 {
-    let end = first + count;
-    settle_block(rows, done, pivots, width, n, first, end);
-    tabulate(&mut tables.rows, rows, width, first, count);
-    tabulate(&mut tables.done, done, width, first, count);
-    let columns = &pivots[first..end];
-    let all = n as usize;
-    sweep(rows, done, columns, tables, width, all, 0, first);
-    sweep(rows, done, columns, tables, width, all, end, all);
+    settle_block(steps, block);
+    tables.tabulate(steps, block);
+    sweep(steps, tables, block, 0, block.first);
+    sweep(steps, tables, block, block.end, steps.n);
 }
 
 // Brings the rows into reduced steps; `done` says of which rows each is the sum, and `pivots` which column each owns, or `n`.
-pub fn bring_into_steps(rows: &mut [u64], done: &mut [u64], pivots: &mut [u16], n: u16)
-    requires small { n ≤ 1024 }
-    requires rows { length rows.old ≡ n * ((n + 63) / 64) }
-    requires done { length done.old ≡ n * ((n + 63) / 64) }
-    requires pivots { length pivots.old ≡ n }
-    ensures { InSteps n (cell rows.old ((n + 63) / 64)) (cell rows.new ((n + 63) / 64)) (cell done.new ((n + 63) / 64)) (column_of pivots.new) }
+pub fn bring_into_steps(steps: &mut Steps)
+    ensures steps { InSteps steps.old.n (cell steps.old.rows.now (width_of steps.old.n)) (cell steps.new.rows.now (width_of steps.old.n)) (cell steps.new.done.now (width_of steps.old.n)) (column_of steps.new.pivots.now) }
+    ensures place { InPlace steps.old steps.new }
 {
-    let width = (n as usize + 63) / 64;
     let mut tables = Tables {
         rows: [0; TABLE],
         done: [0; TABLE],
     };
-    matrix::identity(done, width, n as usize);
-    echelon::no_pivots(pivots, n);
-    let mut first = next_row(rows, width, 0, n as usize);
-    while first < n as usize {
-        let count = BLOCK.min(n as usize - first);
-        reduce_block(rows, done, pivots, &mut tables, width, n, first, count);
-        first = next_row(rows, width, first + count, n as usize);
+    let width = steps.width();
+    let all = steps.n as usize;
+    matrix::identity(steps.done, width, all);
+    steps.no_pivots();
+    let mut from = 0;
+    while let Some(first) = next_row(steps, from) {
+        let end = steps.n.min(first + BLOCK);
+        reduce_block(steps, &mut tables, Block { first, end });
+        from = end;
     }
 }

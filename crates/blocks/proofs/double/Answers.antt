@@ -1,12 +1,7 @@
-use Rattle.std.proofs.Common.{◌≡◌, ◌+◌, refl, ◌∙◌, subst, arith}
-use Rattle.matrix.specs.Cells.{cell}
+use Rattle.std.proofs.Common.{◌+◌, ◌∙◌, arith}
 use Rattle.matrix.proofs.Memory.{row_within}
-use Rattle.blocks.specs.Said.{Doubled}
-use Rattle.blocks.proofs.Table.{doubled_none, doubled_more}
+use Rattle.blocks.proofs.Table.{doubled_more}
 use Rattle.blocks.proofs.double.Goals as goal
-
-pub loop-e-init : goal.loop-e-init
-loop-e-init c = (doubled_none _ _ _ _, refl)
 
 pub put_sum-requires : goal.put_sum-requires
 put_sum-requires c =
@@ -16,8 +11,3 @@ put_sum-requires c =
 
 pub loop-e-preserved : goal.loop-e-preserved
 loop-e-preserved c = (doubled_more _ _ _ _ _ _ _ c.loop-e-test.true c.loop-e.invariant.0 c.put_sum.ensures, c.put_sum.auto.table ∙ c.loop-e.invariant.1)
-
-pub returns : goal.returns
-returns c =
-    let all : c.loop-e.e ≡ c.args.size = omega arith in
-    subst (λ m. Doubled c.args.table.now c.loop-e.table c.args.width c.args.size m (cell c.args.memory.now c.args.width c.args.i)) all c.loop-e.invariant.0

@@ -1,38 +1,52 @@
-use Rattle.std.proofs.Common.{◌*◌, ◌^◌, ◌≤◌, true, false, sym, ap, ◌∙◌, arith, pow_mono}
-use Rattle.std.proofs.lemmas.Bool.{lt-ltb, le-ltb, and_from, and_left, and_right}
-use Rattle.gf2.specs.Rows.{Row}
-use Rattle.blocks.specs.Said.{hits}
-use Rattle.blocks.proofs.Table.{number_below, number_more, power_more}
+use Rattle.std.proofs.Common.{◌+◌, ◌*◌, ◌&&◌, Bool, sym, ap, refl, ◌∙◌, ap₂, arith, [], ◌∷◌, ◌++◌, append-nil, append_assoc}
+use Rattle.std.specs.Int.{from_bool}
+use Rattle.std.proofs.lemmas.Bool.{lt-ltb, le-ltb, and_left}
+use Rattle.matrix.specs.Cells.{width_of, cell}
+use Rattle.blocks.specs.Said.{entry_of}
+use Rattle.blocks.proofs.Table.{digit_small, entry_more, none_left}
+use Rattle.blocks.proofs.Swept.{read_below}
 use Rattle.blocks.proofs.entry.Goals as goal
-use Rattle.blocks.proofs.entry.Goals.{then-column-n+then-has, then-column-n+else-has, else-column-n}
+
+pub loop-column-init : goal.loop-column-init
+loop-column-init c = ([], append-nil _ ∙ cc, refl)
+
+pub overflow_mul-e : goal.overflow_mul-e
+overflow_mul-e c =
+    let s = c.args.steps.now in
+    let (read, all, is) = c.loop-column.invariant in
+    omega (arith, is, read_below s.n (width_of s.n) s.rows.now _ read s.pivots.now c.args.block.first c.args.block.end c.args.i c.args.block.few all)
 
 pub overflow_add-e : goal.overflow_add-e
 overflow_add-e c =
-    let below = number_below (hits c.args.n c.args.width c.args.rows.now c.args.columns.now c.args.i) c.loop-column.column-index in
-    let few : 2 ^ c.loop-column.column-index ≤ 2 ^ 6 = pow_mono {i = c.loop-column.column-index} {j = 6} (omega arith) in
-    omega (arith, c.loop-column.invariant.0, c.loop-column.invariant.1)
+    let s = c.args.steps.now in
+    let (read, all, is) = c.loop-column.invariant in
+    omega (arith, is, c.from-e.ensures, digit_small c.has.result, read_below s.n (width_of s.n) s.rows.now _ read s.pivots.now c.args.block.first c.args.block.end c.args.i c.args.block.few all)
 
-pub overflow_mul-unit : goal.overflow_mul-unit
-overflow_mul-unit c =
-    let few : 2 ^ c.loop-column.column-index ≤ 2 ^ 6 = pow_mono {i = c.loop-column.column-index} {j = 6} (omega arith) in
-    omega (arith, c.loop-column.invariant.1)
+pub loop-column-preserved-then-column-steps : goal.loop-column-preserved-then-column-steps
+loop-column-preserved-then-column-steps c =
+    let s = c.args.steps.now in
+    let (read, all, is) = c.loop-column.invariant in
+    let x = c.in-Some.column.now in
+    let bit : Bool = cell s.rows.now (width_of s.n) c.args.i x in
+    let on = ap (λ t. t && bit) (lt-ltb _ _ c.if-column-steps.true) in (
+      x ∷ read,
+      sym (append_assoc c.next.new.self.iter.rest.now (x ∷ []) read) ∙ ap (λ l. l ++ read) (sym c.in-Some.ensures.steps) ∙ all,
+      ap₂ (λ e v. e * 2 + v) is (c.from-e.ensures ∙ ap from_bool (c.has.ensures ∙ sym on)) ∙ sym (entry_more s.n (width_of s.n) s.rows.now c.args.i x read),
+    )
 
 pub loop-column-preserved : goal.loop-column-preserved
 loop-column-preserved c =
-    let b = c.loop-column.column-index in
-    let w : Row = hits c.args.n c.args.width c.args.rows.now c.args.columns.now c.args.i in
-    let is = c.loop-column.invariant.0 in
-    let unit = c.loop-column.invariant.1 in (
-      elim c.if-column-n.branch [
-        | then-column-n+then-has v ↦
-            let more = number_more w b true (sym (and_from _ _ (lt-ltb _ _ v.if-column-n.true) (sym v.if-has.ensures))) in
-            omega (arith, v.e-is)
-        | then-column-n+else-has v ↦
-            let more = number_more w b false (sym (and_right _ _ (sym v.if-has.ensures))) in
-            omega (arith, v.e-is)
-        | else-column-n v ↦
-            let more = number_more w b false (sym (and_left _ _ (le-ltb _ _ v.if-column-n.false))) in
-            omega (arith, v.e-is)
-      ],
-      ap (λ z. z * 2) unit ∙ power_more b,
+    let s = c.args.steps.now in
+    let (read, all, is) = c.loop-column.invariant in
+    let x = c.in-Some.column.now in
+    let off = ap from_bool (and_left _ (cell s.rows.now (width_of s.n) c.args.i x) (le-ltb _ _ c.if-column-steps.false)) in (
+      x ∷ read,
+      sym (append_assoc c.next.new.self.iter.rest.now (x ∷ []) read) ∙ ap (λ l. l ++ read) (sym c.in-Some.ensures.steps) ∙ all,
+      omega (arith, is, off, entry_more s.n (width_of s.n) s.rows.now c.args.i x read),
     )
+
+pub returns : goal.returns
+returns c =
+    let s = c.args.steps.now in
+    let (read, all, is) = c.loop-column.invariant in
+    is ∙ ap (λ columns. entry_of s.n (width_of s.n) s.rows.now columns c.args.i) (none_left _ read _ c.in-None.ensures.steps.0 all)

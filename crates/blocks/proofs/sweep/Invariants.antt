@@ -1,7 +1,11 @@
-use Rattle.blocks.specs.Said.{entry_of, Swept}
+use Rattle.std.proofs.Common.{◌≡◌}
+use Rattle.matrix.specs.Cells.{width_of}
+use Rattle.echelon.specs.Places.{InPlace}
+use Rattle.blocks.specs.Said.{asked, Swept}
 use Rattle.blocks.proofs.sweep.Given as goal
 
 abbrev pub invariant-loop-i : goal.invariant-loop-i
 invariant-loop-i l =
-    Swept l.width l.initial.rows l.rows l.tables.rows (entry_of l.n l.width l.initial.rows l.columns) l.low l.i
-    × Swept l.width l.initial.done l.done l.tables.done (entry_of l.n l.width l.initial.rows l.columns) l.low l.i
+    Swept (width_of l.initial.steps.n) l.initial.steps.rows.now l.steps.rows.now l.tables.rows (asked l.initial.steps l.block.first l.block.end) l.low l.i
+    × Swept (width_of l.initial.steps.n) l.initial.steps.done.now l.steps.done.now l.tables.done (asked l.initial.steps l.block.first l.block.end) l.low l.i
+    × (l.steps.pivots.now ≡ l.initial.steps.pivots.now) × InPlace l.initial.steps l.steps
