@@ -133,15 +133,14 @@ pub fn start(rows: &mut [u64], done: &mut [u64], pivots: &mut [u16], marks: &mut
 
 // The steps of the wires, from nothing.
 pub fn from_nothing(wires: &[u64], steps: &mut Steps, marks: &mut [u64])
-    requires marks { length marks.old ≡ width_of steps.old.n }
-    requires wires { length wires.now ≡ steps.old.n * width_of steps.old.n }
+    requires { length wires.now ≡ steps.old.n * width_of steps.old.n }
     ensures steps { InSteps steps.old.n (cell wires.now (width_of steps.old.n)) (cell steps.new.rows.now (width_of steps.old.n)) (cell steps.new.done.now (width_of steps.old.n)) (column_of steps.new.pivots.now) }
     ensures place { InPlace steps.old steps.new }
     ensures cleared { (j : ℕ) → bit_of marks.new j ≡ false }
 {
-    zero_steps(steps);
-    set_first(marks, steps.n);
-    refresh(wires, steps, marks);
+    steps.rows.copy_from_slice(wires);
+    blocks::bring_into_steps(steps);
+    bits::zero(marks);
 }
 
 // The steps become those of the wires, and the marks are cleared: row by row if at most an eighth of the rows is marked, and else from nothing.
