@@ -1,6 +1,6 @@
 pub mod Asked
 pub mod Grids
-pub mod Made
 pub mod Opened
 pub mod Shown
+pub mod Refusals
 pub mod Turns

@@ -5,7 +5,9 @@ use Rattle.lamps.specs.Calls.{Board, Call, Answer, after, IsRight}
 use Rattle.lamps.specs.Promise.{Memory}
 use Rattle.desk.specs.Holding.{lent, Holds}
 use Rattle.lines.specs.Texts.{refusal_line}
+use Rattle.text.specs.Open.{lamps_open}
 use Rattle.text.specs.Lines.{told}
+use Rattle.text.specs.declared.wall.Wall.{Wall}
 
 -- there is a board or none. What may be said, and what is there then: s is what is said, b is there before and b' after it
 
@@ -19,6 +21,10 @@ Asks c None s b' = (s ≡ refusal_line 1 0) × (b' ≡ None)
 Asks c (Some b) s b' = (a : Answer) × IsRight b c a × (s ≡ told c a) × (b' ≡ Some (after b c))
 
 -- MEMORY
+
+-- the memory of a wall
+abbrev pub held : Wall → Memory
+held w = lent (lamps_open w.board) w.wires w.rows w.done w.pivots w.lit w.marks
 
 -- of the slices, for 64 lamps, what is in use for so many as there are
 abbrev pub in_use : Memory → Memory

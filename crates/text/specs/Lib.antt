@@ -1,3 +1,4 @@
+pub mod Open
 pub mod Lines
 pub mod Board
 pub mod Transcript

@@ -1,7 +1,7 @@
 use Rattle.std.proofs.Common.{true, false, string_bytes, ap, ◌∙◌}
 use Rattle.text.proofs.Shown.{shown_none, shown_more, pushed}
-use Rattle.text.proofs.digits.Goals.{then-get+in_ok-push_str, else-get+in_ok-push_str-2}
-use Rattle.text.proofs.digits.Goals as goal
+use Rattle.text.proofs.told.digits.Goals.{then-get+in_ok-push_str, else-get+in_ok-push_str-2}
+use Rattle.text.proofs.told.digits.Goals as goal
 
 pub loop-i-init : goal.loop-i-init
 loop-i-init c = c.new-text.ensures.bytes ∙ shown_none _

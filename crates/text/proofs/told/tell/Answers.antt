@@ -1,7 +1,7 @@
 use Rattle.std.proofs.Common.{◌≡◌, IfOk, string_bytes, sym, subst}
 use Rattle.calls.specs.Saying.{meant, said}
 use Rattle.text.specs.Lines.{told}
-use Rattle.text.proofs.tell.Goals as goal
+use Rattle.text.proofs.told.tell.Goals as goal
 
 pub returns-in-SomeWay : goal.returns-in-SomeWay
 returns-in-SomeWay c =

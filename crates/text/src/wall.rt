@@ -1,0 +1,213 @@
+// The memory of a board of at most 64 lamps, and what is asked of it.
+ghost use Rattle.std.specs.Prelude.{◌≡◌, ◌+◌, ◌*◌, ◌%◌, ◌<◌, ◌≤◌, ◌≢◌, ◌==◌, nat_lt, false, List, [], ◌∷◌, ◌++◌, length, IfOk, IfErr, OnErr, IsNone, IfSome, is_ok, None, Some, string_bytes};
+ghost use Rattle.lamps.specs.Lamps.{Wire, wired};
+ghost use Rattle.lamps.specs.Calls.{Board as Lights};
+ghost use Rattle.lamps.specs.Boards.{wire as joined, wires_before, grid};
+ghost use Rattle.calls.specs.declared.Refusal.TheVariants.{BadSize};
+ghost use Rattle.calls.specs.Saying.{lamps_of, meant, said};
+ghost use Rattle.desk.specs.Holding.{Holds, Performs};
+ghost use Rattle.lines.specs.Lines.{line_of, serves};
+ghost use Rattle.text.specs.Open.{lamps_open, lent_first};
+
+use super::told;
+use calls::{Answer, Call};
+use lines::{Line, Refusal};
+use std::alloc::{AllocError, Global};
+use wires::Board;
+
+// The board that is open, if one is; what a desk keeps of it; and the lamps of the last answer.
+#[derive(Drop)]
+pub struct Wall {
+    board: Option<Board>,
+    wires: [u64; 64],
+    rows: [u64; 64],
+    done: [u64; 64],
+    pivots: [u16; 64],
+    lit: [u64; 1],
+    marks: [u64; 1],
+    row: [u64; 1],
+    ghost small: { lamps_open board ≤ 64 },
+}
+
+// Performs a call on a board, in as much of the memory as it takes.
+fn on_board(
+    board: Board,
+    wires: &mut [u64; 64],
+    rows: &mut [u64; 64],
+    done: &mut [u64; 64],
+    pivots: &mut [u16; 64],
+    lit: &mut [u64; 1],
+    marks: &mut [u64; 1],
+    call: Call,
+    row: &mut [u64; 1],
+) -> Answer
+    requires { board.lamps ≤ 64 }
+    ensures lamps { lamps_of result ≤ 64 }
+    ensures performs { (b : Lights) → Holds (lent_first board.lamps wires.old rows.old done.old pivots.old lit.old marks.old) b → Performs (lent_first board.lamps wires.old rows.old done.old pivots.old lit.old marks.old) (lent_first board.lamps wires.new rows.new done.new pivots.new lit.new marks.new) b (meant call) (said result row.new) }
+{
+    let n = board.lamps as usize;
+    desk::perform(
+        board,
+        &mut wires[..n],
+        &mut rows[..n],
+        &mut done[..n],
+        &mut pivots[..n],
+        lit,
+        marks,
+        call,
+        row,
+    )
+}
+
+impl Wall {
+    ghost use Rattle.text.specs.Board.{Asks, dark, held, in_use, Step, Comes};
+    ghost use Rattle.text.specs.Transcript.{Opens, Answers};
+
+    // No board is open.
+    pub fn new() -> Wall
+        ensures { result.board ≡ None }
+    {
+        Wall {
+            board: None,
+            wires: [0; 64],
+            rows: [0; 64],
+            done: [0; 64],
+            pivots: [0; 64],
+            lit: [0],
+            marks: [0],
+            row: [0],
+        }
+    }
+
+    // How many lamps there are, 0 where no board is open.
+    fn lamps(&self) -> u16
+        ensures { result ≡ lamps_open self.now.board }
+    {
+        match self.board {
+            Some(board) => board.lamps,
+            None => 0,
+        }
+    }
+
+    // Performs a call on the board, if one is open. Lamps that are answered are written into `row`.
+    fn perform(&mut self, call: Call) -> Option<Answer>
+        ensures same { self.new.board ≡ self.old.board }
+        ensures none { IsNone result → lamps_open self.old.board ≡ 0 }
+        ensures some { IfSome result (λ _. 0 < lamps_open self.old.board) }
+        ensures lamps { IfSome result (λ answer. lamps_of answer ≤ 64) }
+        ensures performs { IfSome result (λ answer. (b : Lights) → Holds (in_use (held self.old)) b → Performs (in_use (held self.old)) (in_use (held self.new)) b (meant call) (said answer self.new.row)) }
+    {
+        let board = self.board?;
+        Some(on_board(
+            board,
+            &mut self.wires,
+            &mut self.rows,
+            &mut self.done,
+            &mut self.pivots,
+            &mut self.lit,
+            &mut self.marks,
+            call,
+            &mut self.row,
+        ))
+    }
+
+    // Performs a call, and gives the line of its answer.
+    fn ask(&mut self, heap: Global, call: Call) -> Result<String, AllocError>
+        ensures { IfOk result (λ s. Step (Asks (meant call)) (held self.old) (held self.new) (string_bytes s)) }
+    {
+        match self.perform(call) {
+            Some(answer) => told::tell(heap, call, answer, &self.row),
+            None => told::refusal(heap, Refusal::Unreadable(0)),
+        }
+    }
+
+    // Makes it a dark board of `lamps` lamps without wires, if that is 1 to 64.
+    fn clear(&mut self, lamps: u32) -> Result<Board, calls::Refusal>
+        ensures served { is_ok result ≡ serves lamps }
+        ensures lamps { IfOk result (λ board. board.lamps ≡ lamps) }
+        ensures opens { IfOk result (λ board. self.new.board ≡ Some board) }
+        ensures dark { IfOk result (λ _. Holds (in_use (held self.new)) (dark lamps [])) }
+        ensures refused { IfErr result (λ why. why ≡ BadSize) }
+        ensures kept { OnErr result (held self.new ≡ held self.old) }
+    {
+        if lamps > 64 {
+            return Err(calls::Refusal::BadSize);
+        }
+        let board = session::open(
+            lamps as u16,
+            &mut self.wires,
+            &mut self.rows,
+            &mut self.done,
+            &mut self.pivots,
+            &mut self.lit,
+            &mut self.marks,
+        )?;
+        self.board = Some(board);
+        Ok(board)
+    }
+
+    // Opens a board of `lamps` lamps.
+    fn open(&mut self, heap: Global, lamps: u16) -> Result<String, AllocError>
+        ensures { IfOk result (λ s. Step (Opens lamps []) (held self.old) (held self.new) (string_bytes s)) }
+    {
+        match self.clear(lamps as u32) {
+            Ok(board) => told::welcome(heap, board),
+            Err(why) => told::refusal(heap, Refusal::Call(why)),
+        }
+    }
+
+    // The wire between the lamps `i` and `j` comes to a dark board that hasn't got it.
+    fn join(&mut self, i: u16, j: u16)
+        requires i { i < lamps_open self.old.board }
+        requires j { j < lamps_open self.old.board }
+        requires apart { i ≢ j }
+        ensures same { self.new.board ≡ self.old.board }
+        ensures comes { (ws : List Wire) → wired ws i j ≡ false → Comes ws (in_use (held self.old)) (in_use (held self.new)) (joined i j ∷ ws) }
+    {
+        let _ = self.perform(Call::Wire(i, j));
+    }
+
+    // Wires each lamp of a new board, in rows of `w` lamps, to the one below it and to the next in its row.
+    fn join_all(&mut self, w: u16)
+        requires w { 0 < w }
+        requires whole { lamps_open self.old.board % w ≡ 0 }
+        ensures same { self.new.board ≡ self.old.board }
+        ensures comes { Comes [] (in_use (held self.old)) (in_use (held self.new)) (wires_before w (lamps_open self.old.board) (lamps_open self.old.board)) }
+    {
+        let n = self.lamps();
+        for i in 0..n {
+            if w < n - i {
+                self.join(i, i + w);
+            }
+            if (i + 1) % w != 0 {
+                self.join(i, i + 1);
+            }
+        }
+    }
+
+    // Opens a board of `h` rows of `w` lamps, each wired to its neighbours.
+    fn open_grid(&mut self, heap: Global, w: u16, h: u16) -> Result<String, AllocError>
+        ensures { IfOk result (λ s. Step (Opens (w * h) (grid w h)) (held self.old) (held self.new) (string_bytes s)) }
+    {
+        match self.clear(w as u32 * h as u32) {
+            Ok(board) => {
+                self.join_all(w);
+                told::welcome(heap, board)
+            }
+            Err(why) => told::refusal(heap, Refusal::Call(why)),
+        }
+    }
+
+    // Answers a line.
+    pub fn answer_line(&mut self, heap: Global, line: &[u8]) -> Result<String, AllocError>
+        ensures { IfOk result (λ s. Step (Answers (line_of line.now)) (held self.old) (held self.new) (string_bytes s)) }
+    {
+        match lines::read_line(line) {
+            Err(place) => told::refusal(heap, Refusal::Unreadable(place)),
+            Ok(Line::Nothing) => Ok(String::new(heap)),
+            Ok(Line::Lamps(lamps)) => self.open(heap, lamps),
+            Ok(Line::Grid(w, h)) => self.open_grid(heap, w, h),
+            Ok(Line::Call(call)) => self.ask(heap, call),
+        }
+    }
+}
