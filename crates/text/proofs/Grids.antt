@@ -11,9 +11,9 @@ use Rattle.desk.specs.Holding.{Holds, Performs}
 use Rattle.desk.proofs.Taken.{wire_taken}
 use Rattle.calls.specs.declared.Answer.{Answer as Reply}
 use Rattle.calls.specs.Saying.{said}
-use Rattle.text.specs.Open.{lamps_open}
+use Rattle.text.specs.Memory.{lamps_open, in_use}
 use Rattle.text.specs.declared.wall.Wall.{Wall}
-use Rattle.text.specs.Board.{dark, held, in_use, Comes}
+use Rattle.text.specs.Board.{dark, held, Comes}
 
 -- a wire that is not there comes
 comes : (m m' : Memory) (ws : List Wire) (i j : ℕ) (a : Answer) → i < m.lamps → j < m.lamps → i ≢ j → wired ws i j ≡ false

@@ -2,5 +2,4 @@ pub mod Asked
 pub mod Grids
 pub mod Opened
 pub mod Shown
-pub mod Refusals
 pub mod Turns

@@ -1,4 +1,4 @@
-pub mod Open
+pub mod Memory
 pub mod Lines
 pub mod Board
 pub mod Transcript

@@ -5,9 +5,11 @@ ghost use Rattle.std.specs.Prelude.{IfOk, string_bytes};
 ghost use Rattle.text.specs.Transcript.{Answered};
 
 use std::alloc::{AllocError, Global};
+use std::fmt::Write;
 use wall::Wall;
 
-mod told;
+mod lamp_set;
+mod reply;
 mod wall;
 
 // The answers to the lines of a text.
@@ -16,15 +18,9 @@ pub fn answers(heap: Global, text: &[u8]) -> Result<String, AllocError>
 {
     let mut wall = Wall::new();
     let mut out = String::new(heap);
-    let mut start = 0;
-    for i in 0..text.len() {
-        if text[i] == b'\n' {
-            let answer = wall.answer_line(heap, &text[start..i])?;
-            out.push_str(answer.as_str())?;
-            start = i + 1;
-        }
+    for line in text.split(|byte| *byte == b'\n') {
+        let reply = wall.answer_line(line);
+        write!(out, "{reply}")?;
     }
-    let answer = wall.answer_line(heap, &text[start..])?;
-    out.push_str(answer.as_str())?;
     Ok(out)
 }

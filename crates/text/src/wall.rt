@@ -1,18 +1,16 @@
 // The memory of a board of at most 64 lamps, and what is asked of it.
-ghost use Rattle.std.specs.Prelude.{◌≡◌, ◌+◌, ◌*◌, ◌%◌, ◌<◌, ◌≤◌, ◌≢◌, ◌==◌, nat_lt, false, List, [], ◌∷◌, ◌++◌, length, IfOk, IfErr, OnErr, IsNone, IfSome, is_ok, None, Some, string_bytes};
+ghost use Rattle.std.specs.Prelude.{◌≡◌, ◌*◌, ◌%◌, ◌<◌, ◌≤◌, ◌≢◌, false, List, [], ◌∷◌, IfOk, IfErr, OnErr, IsNone, IfSome, is_ok, None, Some};
 ghost use Rattle.lamps.specs.Lamps.{Wire, wired};
-ghost use Rattle.lamps.specs.Calls.{Board as Lights};
 ghost use Rattle.lamps.specs.Boards.{wire as joined, wires_before, grid};
 ghost use Rattle.calls.specs.declared.Refusal.TheVariants.{BadSize};
 ghost use Rattle.calls.specs.Saying.{lamps_of, meant, said};
-ghost use Rattle.desk.specs.Holding.{Holds, Performs};
+ghost use Rattle.desk.specs.Holding.{lent, Holds};
 ghost use Rattle.lines.specs.Lines.{line_of, serves};
-ghost use Rattle.text.specs.Open.{lamps_open, lent_first};
+ghost use Rattle.text.specs.Memory.{lamps_open, in_use, Performed};
 
-use super::told;
+use super::reply::{self, Reply};
 use calls::{Answer, Call};
 use lines::{Line, Refusal};
-use std::alloc::{AllocError, Global};
 use wires::Board;
 
 // The board that is open, if one is; what a desk keeps of it; and the lamps of the last answer.
@@ -43,7 +41,7 @@ fn on_board(
 ) -> Answer
     requires { board.lamps ≤ 64 }
     ensures lamps { lamps_of result ≤ 64 }
-    ensures performs { (b : Lights) → Holds (lent_first board.lamps wires.old rows.old done.old pivots.old lit.old marks.old) b → Performs (lent_first board.lamps wires.old rows.old done.old pivots.old lit.old marks.old) (lent_first board.lamps wires.new rows.new done.new pivots.new lit.new marks.new) b (meant call) (said result row.new) }
+    ensures performs { Performed (meant call) (lent board.lamps wires.old rows.old done.old pivots.old lit.old marks.old) (lent board.lamps wires.new rows.new done.new pivots.new lit.new marks.new) (said result row.new) }
 {
     let n = board.lamps as usize;
     desk::perform(
@@ -60,7 +58,8 @@ fn on_board(
 }
 
 impl Wall {
-    ghost use Rattle.text.specs.Board.{Asks, dark, held, in_use, Step, Comes};
+    ghost use Rattle.text.specs.Lines.{line_for};
+    ghost use Rattle.text.specs.Board.{Asks, dark, held, Step, Comes};
     ghost use Rattle.text.specs.Transcript.{Opens, Answers};
 
     // No board is open.
@@ -95,7 +94,7 @@ impl Wall {
         ensures none { IsNone result → lamps_open self.old.board ≡ 0 }
         ensures some { IfSome result (λ _. 0 < lamps_open self.old.board) }
         ensures lamps { IfSome result (λ answer. lamps_of answer ≤ 64) }
-        ensures performs { IfSome result (λ answer. (b : Lights) → Holds (in_use (held self.old)) b → Performs (in_use (held self.old)) (in_use (held self.new)) b (meant call) (said answer self.new.row)) }
+        ensures performs { IfSome result (λ answer. Performed (meant call) (held self.old) (held self.new) (said answer self.new.row)) }
     {
         let board = self.board?;
         Some(on_board(
@@ -111,13 +110,13 @@ impl Wall {
         ))
     }
 
-    // Performs a call, and gives the line of its answer.
-    fn ask(&mut self, heap: Global, call: Call) -> Result<String, AllocError>
-        ensures { IfOk result (λ s. Step (Asks (meant call)) (held self.old) (held self.new) (string_bytes s)) }
+    // Performs a call, and gives the reply.
+    fn ask(&mut self, call: Call) -> Reply
+        ensures { Step (Asks (meant call)) (held self.old) (held self.new) (line_for result) }
     {
         match self.perform(call) {
-            Some(answer) => told::tell(heap, call, answer, &self.row),
-            None => told::refusal(heap, Refusal::Unreadable(0)),
+            Some(answer) => reply::tell(call, answer, self.row),
+            None => Reply::Refused(Refusal::Unreadable(0)),
         }
     }
 
@@ -147,12 +146,12 @@ impl Wall {
     }
 
     // Opens a board of `lamps` lamps.
-    fn open(&mut self, heap: Global, lamps: u16) -> Result<String, AllocError>
-        ensures { IfOk result (λ s. Step (Opens lamps []) (held self.old) (held self.new) (string_bytes s)) }
+    fn open(&mut self, lamps: u16) -> Reply
+        ensures { Step (Opens lamps []) (held self.old) (held self.new) (line_for result) }
     {
         match self.clear(lamps as u32) {
-            Ok(board) => told::welcome(heap, board),
-            Err(why) => told::refusal(heap, Refusal::Call(why)),
+            Ok(board) => Reply::Opened(board.lamps),
+            Err(why) => Reply::Refused(Refusal::Call(why)),
         }
     }
 
@@ -186,28 +185,28 @@ impl Wall {
     }
 
     // Opens a board of `h` rows of `w` lamps, each wired to its neighbours.
-    fn open_grid(&mut self, heap: Global, w: u16, h: u16) -> Result<String, AllocError>
-        ensures { IfOk result (λ s. Step (Opens (w * h) (grid w h)) (held self.old) (held self.new) (string_bytes s)) }
+    fn open_grid(&mut self, w: u16, h: u16) -> Reply
+        ensures { Step (Opens (w * h) (grid w h)) (held self.old) (held self.new) (line_for result) }
     {
         match self.clear(w as u32 * h as u32) {
             Ok(board) => {
                 self.join_all(w);
-                told::welcome(heap, board)
+                Reply::Opened(board.lamps)
             }
-            Err(why) => told::refusal(heap, Refusal::Call(why)),
+            Err(why) => Reply::Refused(Refusal::Call(why)),
         }
     }
 
     // Answers a line.
-    pub fn answer_line(&mut self, heap: Global, line: &[u8]) -> Result<String, AllocError>
-        ensures { IfOk result (λ s. Step (Answers (line_of line.now)) (held self.old) (held self.new) (string_bytes s)) }
+    pub fn answer_line(&mut self, line: &[u8]) -> Reply
+        ensures { Step (Answers (line_of line.now)) (held self.old) (held self.new) (line_for result) }
     {
         match lines::read_line(line) {
-            Err(place) => told::refusal(heap, Refusal::Unreadable(place)),
-            Ok(Line::Nothing) => Ok(String::new(heap)),
-            Ok(Line::Lamps(lamps)) => self.open(heap, lamps),
-            Ok(Line::Grid(w, h)) => self.open_grid(heap, w, h),
-            Ok(Line::Call(call)) => self.ask(heap, call),
+            Err(place) => Reply::Refused(Refusal::Unreadable(place)),
+            Ok(Line::Nothing) => Reply::Nothing,
+            Ok(Line::Lamps(lamps)) => self.open(lamps),
+            Ok(Line::Grid(w, h)) => self.open_grid(w, h),
+            Ok(Line::Call(call)) => self.ask(call),
         }
     }
 }

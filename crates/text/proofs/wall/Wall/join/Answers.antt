@@ -1,4 +1,5 @@
-use Rattle.text.specs.Board.{held, in_use}
+use Rattle.text.specs.Memory.{in_use}
+use Rattle.text.specs.Board.{held}
 use Rattle.text.proofs.Grids.{joined}
 use Rattle.text.proofs.wall.Wall.join.Goals as goal
 

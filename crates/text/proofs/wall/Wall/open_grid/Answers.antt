@@ -1,8 +1,8 @@
 use Rattle.std.proofs.Common.{◌≡◌, ◌*◌, ◌<◌, [], ◌∙◌, ap, sym, subst}
 use Rattle.lamps.specs.Boards.{wires_before, grid}
 use Rattle.desk.specs.Holding.{Holds}
-use Rattle.text.specs.Open.{lamps_open}
-use Rattle.text.specs.Board.{dark, held, in_use}
+use Rattle.text.specs.Memory.{lamps_open, in_use}
+use Rattle.text.specs.Board.{dark, held}
 use Rattle.text.proofs.Grids.{grid_some, grid_whole}
 use Rattle.text.proofs.Opened.{opens}
 use Rattle.text.proofs.wall.Wall.open_grid.Goals as goal
@@ -23,4 +23,4 @@ returns-in-Ok c =
     let size : lamps_open bare.board ≡ w * h = ap lamps_open now.opens ∙ now.lamps in
     let some = subst (λ n. 0 < n) (sym (ap lamps_open c.join_all.ensures.same ∙ ap lamps_open now.opens)) c.in-Ok.board.some in
     let holds = subst (λ n. Holds (in_use (held bare)) (dark n []) → Holds (in_use (held all)) (dark n (wires_before w n n))) size c.join_all.ensures.comes now.dark in
-    opens (w * h) c.in-Ok.board.lamps (grid w h) (held c.args.self.now) (held all) c.welcome.result now.served now.lamps some holds c.welcome.ensures
+    opens (w * h) c.in-Ok.board.lamps (grid w h) (held c.args.self.now) (held all) now.served now.lamps some holds
