@@ -1,10 +1,11 @@
 -- The lines that answer. Assumes nothing: these are definitions.
-use Rattle.std.specs.Prelude.{ℕ, zero, suc, List, [], ◌++◌, codes, decimal}
+use Rattle.std.specs.Prelude.{ℕ, zero, suc, List, [], ◌++◌, Ok, Err, Result, codes, decimal}
 use Rattle.lamps.specs.Lamps.{Lamps, listed}
 use Rattle.lamps.specs.Calls.{Call, wires, turns, presses, lit, out, ways, garbled}
 use Rattle.lamps.specs.Calls.{Answer, refused, number, lamps, fewest, some_way, never}
 use Rattle.bits.specs.Bits.{bit_of}
 use Rattle.lines.specs.Printed.{shown}
+use Rattle.lines.specs.declared.refusal.Refusal.{Refusal}
 use Rattle.lines.specs.Refusals.{number_of, place_of}
 use Rattle.lines.specs.Texts.{refusal_line}
 use Rattle.text.specs.declared.lamp_set.LampSet.{LampSet}
@@ -61,3 +62,8 @@ line_for (reply.Lit s) = set (codes "lit ") (lamps_in s)
 line_for (reply.Fewest s) = set (codes "press ") (lamps_in s)
 line_for (reply.SomeWay s) = set (codes "some way, press ") (lamps_in s)
 line_for (reply.Never s) = set (codes "never, by ") (lamps_in s)
+
+-- the reply that a part of the program gives, or a refusal
+abbrev pub reply_or : Result Reply Refusal → Reply
+reply_or (Ok r) = r
+reply_or (Err why) = reply.Refused why

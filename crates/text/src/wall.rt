@@ -27,7 +27,8 @@ pub struct Wall {
     ghost small: { lamps_open board ≤ 64 },
 }
 
-// Performs a call on a board, in as much of the memory as it takes.
+// Performs a call on a board, in as much of the memory as it takes. The fields come one by one: no part of a field can be lent
+// from a struct that keeps a fact.
 fn on_board(
     board: Board,
     wires: &mut [u64; 64],
@@ -58,7 +59,7 @@ fn on_board(
 }
 
 impl Wall {
-    ghost use Rattle.text.specs.Lines.{line_for};
+    ghost use Rattle.text.specs.Lines.{line_for, reply_or};
     ghost use Rattle.text.specs.Board.{Asks, dark, held, Step, Comes};
     ghost use Rattle.text.specs.Transcript.{Opens, Answers};
 
@@ -110,14 +111,12 @@ impl Wall {
         ))
     }
 
-    // Performs a call, and gives the reply.
-    fn ask(&mut self, call: Call) -> Reply
-        ensures { Step (Asks (meant call)) (held self.old) (held self.new) (line_for result) }
+    // Performs a call, if a board is open, and gives the reply.
+    fn ask(&mut self, call: Call) -> Result<Reply, Refusal>
+        ensures { Step (Asks (meant call)) (held self.old) (held self.new) (line_for (reply_or result)) }
     {
-        match self.perform(call) {
-            Some(answer) => reply::tell(call, answer, self.row),
-            None => Reply::Refused(Refusal::Unreadable(0)),
-        }
+        let answer = self.perform(call).ok_or(Refusal::Unreadable(0))?;
+        Ok(reply::tell(call, answer, self.row))
     }
 
     // Makes it a dark board of `lamps` lamps without wires, if that is 1 to 64.
@@ -146,13 +145,11 @@ impl Wall {
     }
 
     // Opens a board of `lamps` lamps.
-    fn open(&mut self, lamps: u16) -> Reply
-        ensures { Step (Opens lamps []) (held self.old) (held self.new) (line_for result) }
+    fn open(&mut self, lamps: u16) -> Result<Reply, Refusal>
+        ensures { Step (Opens lamps []) (held self.old) (held self.new) (line_for (reply_or result)) }
     {
-        match self.clear(lamps as u32) {
-            Ok(board) => Reply::Opened(board.lamps),
-            Err(why) => Reply::Refused(Refusal::Call(why)),
-        }
+        let board = self.clear(lamps as u32)?;
+        Ok(Reply::Opened(board.lamps))
     }
 
     // The wire between the lamps `i` and `j` comes to a dark board that hasn't got it.
@@ -185,15 +182,23 @@ impl Wall {
     }
 
     // Opens a board of `h` rows of `w` lamps, each wired to its neighbours.
-    fn open_grid(&mut self, w: u16, h: u16) -> Reply
-        ensures { Step (Opens (w * h) (grid w h)) (held self.old) (held self.new) (line_for result) }
+    fn open_grid(&mut self, w: u16, h: u16) -> Result<Reply, Refusal>
+        ensures { Step (Opens (w * h) (grid w h)) (held self.old) (held self.new) (line_for (reply_or result)) }
     {
-        match self.clear(w as u32 * h as u32) {
-            Ok(board) => {
-                self.join_all(w);
-                Reply::Opened(board.lamps)
-            }
-            Err(why) => Reply::Refused(Refusal::Call(why)),
+        let board = self.clear(w as u32 * h as u32)?;
+        self.join_all(w);
+        Ok(Reply::Opened(board.lamps))
+    }
+
+    // Reads a line, and does what it says.
+    fn read(&mut self, line: &[u8]) -> Result<Reply, Refusal>
+        ensures { Step (Answers (line_of line.now)) (held self.old) (held self.new) (line_for (reply_or result)) }
+    {
+        match lines::read_line(line).map_err(Refusal::Unreadable)? {
+            Line::Nothing => Ok(Reply::Nothing),
+            Line::Lamps(lamps) => self.open(lamps),
+            Line::Grid(w, h) => self.open_grid(w, h),
+            Line::Call(call) => self.ask(call),
         }
     }
 
@@ -201,12 +206,6 @@ impl Wall {
     pub fn answer_line(&mut self, line: &[u8]) -> Reply
         ensures { Step (Answers (line_of line.now)) (held self.old) (held self.new) (line_for result) }
     {
-        match lines::read_line(line) {
-            Err(place) => Reply::Refused(Refusal::Unreadable(place)),
-            Ok(Line::Nothing) => Reply::Nothing,
-            Ok(Line::Lamps(lamps)) => self.open(lamps),
-            Ok(Line::Grid(w, h)) => self.open_grid(w, h),
-            Ok(Line::Call(call)) => self.ask(call),
-        }
+        self.read(line).unwrap_or_else(Reply::Refused)
     }
 }

@@ -5,8 +5,8 @@ use Rattle.text.specs.Board.{held}
 use Rattle.text.proofs.Asked.{asked}
 use Rattle.text.proofs.wall.Wall.ask.Goals as goal
 
-pub returns-in-Some : goal.returns-in-Some
-returns-in-Some c =
+pub returns : goal.returns
+returns c =
     let new = c.perform.new.self in
-    asked (meant c.args.call) (held c.args.self.now) (held new) (said c.in-Some.answer new.row) _ c.in-Some.ensures.some (ap lamps_open c.perform.ensures.same)
-    c.in-Some.ensures.performs c.tell.ensures
+    let performed = rw c.in_ok-answer.ensures.ok_part at c.perform.ensures in
+    asked (meant c.args.call) (held c.args.self.now) (held new) (said c.in_ok-answer.answer new.row) _ performed.some (ap lamps_open performed.same) performed.performs c.tell.ensures

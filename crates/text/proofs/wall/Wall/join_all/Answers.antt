@@ -1,6 +1,7 @@
-use Rattle.std.proofs.Common.{◌+◌, ltb, [], ◌∷◌, ◌++◌, subst, arith}
+use Rattle.std.proofs.Common.{◌+◌, Bool, ltb, List, [], ◌∷◌, ◌++◌, subst, arith}
 use Rattle.std.proofs.lemmas.Bool.{lt-ltb, le-ltb, eq-eqb, ne_eqb}
 use Rattle.gf2.specs.Rows.{pick}
+use Rattle.lamps.specs.Lamps.{Wire}
 use Rattle.lamps.specs.Boards.{wire, wires_before}
 use Rattle.text.proofs.Grids.{Wired, apart, next_apart, more_wires, no_wires, no_more, more_come, wired_as}
 use Rattle.text.proofs.wall.Wall.join_all.Goals as goal
@@ -16,15 +17,15 @@ loop-i-preserved c =
     let w = c.args.w in
     let i = c.loop-i.i in
     let old = c.loop-i.invariant in
-    let ws = wires_before w n i in
-    let down = pick (ltb (i + w) n) (wire i (i + w) ∷ []) [] ++ ws in
-    let below : Wired first c.if-w-n.self down = elim c.if-w-n.branch [
-      | then-w-n v ↦ wired_as (λ t. pick t (wire i (i + w) ∷ []) [] ++ ws) (lt-ltb (i + w) n (omega arith)) v.self-is
-          (more_come old v.join.ensures.same (v.join.ensures.comes ws (apart w n i i (i + w) (omega arith) (omega arith))))
-      | else-w-n v ↦ wired_as (λ t. pick t (wire i (i + w) ∷ []) [] ++ ws) (le-ltb (i + w) n (omega arith)) v.self-is old
+    let down : Bool → List Wire = λ t. pick t (wire i (i + w) ∷ []) [] ++ wires_before w n i in
+    let right : Bool → List Wire = λ t. pick t [] (wire i (i + 1) ∷ []) ++ down (ltb (i + w) n) in
+    let below : Wired first c.if-w-n.self (down (ltb (i + w) n)) = elim c.if-w-n.branch [
+      | then-w-n v ↦ wired_as down (lt-ltb (i + w) n (omega arith)) v.self-is
+          (more_come old v.join.ensures.same (v.join.ensures.comes (wires_before w n i) (apart w n i i (i + w) (omega arith) (omega arith))))
+      | else-w-n v ↦ wired_as down (le-ltb (i + w) n (omega arith)) v.self-is old
     ] in
     subst (λ us. Wired first c.if-i-w-ne0.self us) (more_wires w n i) (elim c.if-i-w-ne0.branch [
-      | then-i-w-ne0 v ↦ wired_as (λ t. pick t [] (wire i (i + 1) ∷ []) ++ down) (ne_eqb _ 0 v.if-i-w-ne0.true) v.self-is
-          (more_come below v.join-then-i-w-ne0.ensures.same (v.join-then-i-w-ne0.ensures.comes down (next_apart (ltb (i + w) n) w n i v.if-i-w-ne0.true)))
-      | else-i-w-ne0 v ↦ wired_as (λ t. pick t [] (wire i (i + 1) ∷ []) ++ down) (eq-eqb _ 0 v.if-i-w-ne0.false) v.self-is below
+      | then-i-w-ne0 v ↦ wired_as right (ne_eqb _ 0 v.if-i-w-ne0.true) v.self-is
+          (more_come below v.join-then-i-w-ne0.ensures.same (v.join-then-i-w-ne0.ensures.comes (down (ltb (i + w) n)) (next_apart (ltb (i + w) n) w n i v.if-i-w-ne0.true)))
+      | else-i-w-ne0 v ↦ wired_as right (eq-eqb _ 0 v.if-i-w-ne0.false) v.self-is below
     ])
