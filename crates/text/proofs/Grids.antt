@@ -1,18 +1,22 @@
 -- The wires of a grid come one by one. Assumes nothing.
-use Rattle.std.proofs.Common.{◌≡◌, ℕ, zero, suc, ◌+◌, ◌*◌, ◌%◌, ◌<◌, ◌≤◌, Bool, true, false, eqb, ltb, List, [], ◌∷◌, ◌++◌, refl, ap, ◌∙◌, subst, mul_comm, arith}
+use Rattle.std.proofs.Common.{◌≡◌, ℕ, zero, suc, ◌+◌, ◌*◌, ◌%◌, ◌<◌, ◌≤◌, Bool, true, false, eqb, ltb, List, [], ◌∷◌, ◌++◌, ◌≢◌, IsNone, IfSome, Option, Some, None, sym, refl, ap, ◌∙◌, subst, mul_comm, arith}
 use Rattle.std.proofs.lemmas.Nat.{mod-mul-add}
 use Rattle.std.proofs.lemmas.Bool.{eq-eqb, ne_eqb}
 use Rattle.gf2.specs.Rows.{pick}
 use Rattle.lamps.specs.Lamps.{Wire, joins, wired}
-use Rattle.lamps.specs.Calls.{Answer, wires, turned, changed, dropped}
+use Rattle.lamps.specs.Calls.{Board, Answer, wires, turned, changed, dropped}
 use Rattle.lamps.specs.Promise.{Memory}
 use Rattle.lamps.specs.Boards.{wire, wires_before}
 use Rattle.desk.specs.Holding.{Holds, Performs}
 use Rattle.desk.proofs.Taken.{wire_taken}
-use Rattle.text.specs.Board.{dark}
+use Rattle.calls.specs.declared.Answer.{Answer as Reply}
+use Rattle.calls.specs.Saying.{said}
+use Rattle.text.specs.Memory.{lamps_open, in_use}
+use Rattle.text.specs.declared.wall.Wall.{Wall}
+use Rattle.text.specs.Board.{dark, held, Comes}
 
 -- a wire that is not there comes
-pub comes : (m m' : Memory) (ws : List Wire) (i j : ℕ) (a : Answer) → i < m.lamps → j < m.lamps → (i ≡ j → ⊥) → wired ws i j ≡ false
+comes : (m m' : Memory) (ws : List Wire) (i j : ℕ) (a : Answer) → i < m.lamps → j < m.lamps → i ≢ j → wired ws i j ≡ false
     → Holds m (dark m.lamps ws) → Performs m m' (dark m.lamps ws) (wires i j) a → Holds m' (dark m.lamps (wire i j ∷ ws))
 unfolding changed
 comes m m' ws i j a p q ne free h r =
@@ -20,6 +24,28 @@ comes m m' ws i j a p q ne free h r =
     let taken : eqb (turned b (wires i j)) 0 ≡ true = eq-eqb (turned b (wires i j)) 0 (wire_taken m b h i j p q ne) in
     let then : Holds m' (changed b (wires i j)) = subst (λ t. Holds m' (pick t (changed b (wires i j)) b)) taken r.holds in
     subst (λ t. Holds m' (dark m.lamps (pick t (dropped ws i j) (wire i j ∷ ws)))) free then
+
+pub joined : (m m' : Memory) (row : List ℕ) (i j : ℕ) (r : Option Reply) → i < m.lamps → j < m.lamps → i ≢ j → (IsNone r → m.lamps ≡ 0)
+    → IfSome r (λ a. (b : Board) → Holds m b → Performs m m' b (wires i j) (said a row)) → (ws : List Wire) → wired ws i j ≡ false → Comes ws m m' (wire i j ∷ ws)
+joined m m' row i j None p q ne none done ws free = absurd (omega (arith, p, none refl))
+joined m m' row i j (Some a) p q ne none done ws free = λ h. comes m m' ws i j (said a row) p q ne free h (done (dark m.lamps ws) h)
+
+-- wires come one after the other
+pub record Wired (first now : Wall) (ws : List Wire) : Type 0 where
+  pub same : now.board ≡ first.board
+  pub comes : Comes [] (in_use (held first)) (in_use (held now)) ws
+
+pub no_more : (first : Wall) (ws : List Wire) → [] ≡ ws → Wired first first ws
+no_more first ws e = record { same = refl; comes = λ h. subst (λ us. Holds (in_use (held first)) (dark (lamps_open first.board) us)) e h }
+
+pub more_come : {first w w' : Wall} {ws ws' : List Wire} → Wired first w ws → w'.board ≡ w.board → Comes ws (in_use (held w)) (in_use (held w')) ws' → Wired first w' ws'
+more_come {first} {w} {w'} {ws} {ws'} old same new = record {
+  same = same ∙ old.same;
+  comes = λ h. subst (λ b. Holds (in_use (held w)) (dark (lamps_open b) ws) → Holds (in_use (held w')) (dark (lamps_open b) ws')) old.same new (old.comes h);
+}
+
+pub wired_as : {first w w' : Wall} (F : Bool → List Wire) {t t' : Bool} → t' ≡ t → w' ≡ w → Wired first w (F t) → Wired first w' (F t')
+wired_as {first} {w} {w'} F {t} {t'} p q h = subst (λ x. Wired first w' (F x)) (sym p) (subst (λ x. Wired first x (F t)) (sym q) h)
 
 -- no wire of the lamps before i is between two others
 not_joined : (i j a b : ℕ) → i < a → i < b → joins i j a b ≡ false

@@ -1,5 +1,7 @@
 -- The digits of a set of lamps, one by one. Assumes nothing.
-use Rattle.std.proofs.Common.{◌≡◌, ℕ, zero, suc, ◌+◌, Bool, cond, List, [], ◌∷◌, ◌++◌, is_ok, Ok, Result, sym, refl, ap, ◌∙◌, arith}
+use Rattle.std.proofs.Common.{◌≡◌, ℕ, zero, suc, ◌+◌, Bool, true, false, [], ◌∷◌, ◌++◌, decimal, sym, refl, ap, ◌∙◌, arith}
+use Rattle.std.specs.Int.{from_bool}
+use Rattle.std.proofs.lemmas.Fmt.{decimal_digit}
 use Rattle.gf2.specs.Rows.{pick}
 use Rattle.lamps.specs.Lamps.{listed}
 use Rattle.lines.specs.Printed.{shown}
@@ -13,11 +15,11 @@ pub shown_none : (f : ℕ → Bool) → [] ≡ shown (listed 0 f)
 unfolding shown listed
 shown_none f = refl
 
-pub shown_more : (n : ℕ) (f : ℕ → Bool) (b : Bool) (s t : List ℕ) → b ≡ f n → s ≡ shown (listed n f) → t ≡ s ++ (pick b 49 48 ∷ []) → t ≡ shown (listed (n + 1) f)
-shown_more n f b s t e old new =
-    let next : suc n ≡ n + 1 = omega arith in
-    new ∙ ap (λ x. s ++ (pick x 49 48 ∷ [])) e ∙ ap (λ x. x ++ (pick (f n) 49 48 ∷ [])) old ∙ sym (shown_last n f) ∙ ap (λ x. shown (listed x f)) next
+digit : (b : Bool) → decimal (from_bool b) ≡ pick b 49 48 ∷ []
+digit true = decimal_digit 1 (omega arith)
+digit false = decimal_digit 0 (omega arith)
 
--- what was pushed, if it was
-pub pushed : {T E : Type 0} {r : Result T E} {x : T} (s t old : List ℕ) → r ≡ Ok x → s ≡ cond (is_ok r) t old → s ≡ t
-pushed s t old e h = h ∙ ap (λ o. cond (is_ok o) t old) e
+pub shown_more : (n : ℕ) (f : ℕ → Bool) (b : Bool) (d : ℕ) → b ≡ f n → d ≡ from_bool b → shown (listed n f) ++ decimal d ≡ shown (listed (n + 1) f)
+shown_more n f b d e is =
+    let next : suc n ≡ n + 1 = omega arith in
+    ap (λ x. shown (listed n f) ++ x) (ap decimal (is ∙ ap from_bool e) ∙ digit (f n)) ∙ sym (shown_last n f) ∙ ap (λ x. shown (listed x f)) next

@@ -1,11 +1,13 @@
 -- What is said to a call in text, and how memory holds the board that is open. Assumes nothing: these are definitions.
-use Rattle.std.specs.Prelude.{◌≡◌, ℕ, ◌<◌, List, take, Some, None, Option, MatchOption}
+use Rattle.std.specs.Prelude.{◌≡◌, ℕ, ◌<◌, List, Some, None, Option, MatchOption}
 use Rattle.lamps.specs.Lamps.{Wire, none_lit}
 use Rattle.lamps.specs.Calls.{Board, Call, Answer, after, IsRight}
 use Rattle.lamps.specs.Promise.{Memory}
 use Rattle.desk.specs.Holding.{lent, Holds}
 use Rattle.lines.specs.Texts.{refusal_line}
+use Rattle.text.specs.Memory.{lamps_open, in_use}
 use Rattle.text.specs.Lines.{told}
+use Rattle.text.specs.declared.wall.Wall.{Wall}
 
 -- there is a board or none. What may be said, and what is there then: s is what is said, b is there before and b' after it
 
@@ -20,9 +22,9 @@ Asks c (Some b) s b' = (a : Answer) × IsRight b c a × (s ≡ told c a) × (b' 
 
 -- MEMORY
 
--- of the slices, for 64 lamps, what is in use for so many as there are
-abbrev pub in_use : Memory → Memory
-in_use m = lent m.lamps (take m.lamps m.wires) (take m.lamps m.rows) (take m.lamps m.done) (take m.lamps m.pivots) m.lit m.marks
+-- the memory of a wall
+abbrev pub held : Wall → Memory
+held w = lent (lamps_open w.board) w.wires w.rows w.done w.pivots w.lit w.marks
 
 -- the memory holds the board that there is, or has no lamps if there is none
 abbrev pub Stands : Memory → Option Board → Type 0

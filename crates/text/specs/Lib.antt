@@ -1,3 +1,4 @@
+pub mod Memory
 pub mod Lines
 pub mod Board
 pub mod Transcript

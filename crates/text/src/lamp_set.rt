@@ -1,0 +1,28 @@
+// A set of lamps, and how it is printed.
+ghost use Rattle.std.specs.Prelude.{◌≤◌, Some};
+ghost use Rattle.lamps.specs.Lamps.{listed};
+ghost use Rattle.bits.specs.Bits.{bit_of};
+ghost use Rattle.lines.specs.Printed.{shown};
+
+use std::fmt;
+
+// Of the first `count` lamps, at most 64, those whose bit is set in the row.
+#[derive(Clone, Copy)]
+pub struct LampSet {
+    pub count: u16,
+    pub row: [u64; 1],
+    ghost few: { count ≤ 64 },
+}
+
+// A digit for each lamp: 1 if it is in the set.
+impl fmt::Display for LampSet {
+    ghost output = { λ s. Some (shown (listed s.count (bit_of s.row))) };
+
+    fn fmt<W: fmt::Write>(&self, f: &mut fmt::Formatter<W>) -> fmt::Result {
+        for i in 0..self.count {
+            let digit = u8::from(bits::get(&self.row, i));
+            write!(f, "{digit}")?;
+        }
+        Ok(())
+    }
+}
