@@ -10,6 +10,7 @@ ghost use Rattle.text.specs.Memory.{lamps_open, in_use, Performed};
 
 use super::reply::{self, Reply};
 use calls::{Answer, Call};
+use desk::Memory;
 use lines::{Line, Refusal};
 use wires::Board;
 
@@ -45,17 +46,20 @@ fn on_board(
     ensures performs { Performed (meant call) (lent board.lamps wires.old rows.old done.old pivots.old lit.old marks.old) (lent board.lamps wires.new rows.new done.new pivots.new lit.new marks.new) (said result row.new) }
 {
     let n = board.lamps as usize;
-    desk::perform(
+    let (wires, _) = wires.split_at_mut(n);
+    let (rows, _) = rows.split_at_mut(n);
+    let (done, _) = done.split_at_mut(n);
+    let (pivots, _) = pivots.split_at_mut(n);
+    let mut memory = Memory {
         board,
-        &mut wires[..n],
-        &mut rows[..n],
-        &mut done[..n],
-        &mut pivots[..n],
+        wires,
+        rows,
+        done,
+        pivots,
         lit,
         marks,
-        call,
-        row,
-    )
+    };
+    memory.perform(call, row)
 }
 
 impl Wall {
