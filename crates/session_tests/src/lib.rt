@@ -3,6 +3,7 @@
 // Boards that are opened, wired, lit and put out by bytes.
 #[cfg(test)]
 mod tests {
+    use calls::{Answer, Call, Refusal};
     use std::process::Abort;
     use std::test::Fail;
     use wires::Board;
@@ -27,7 +28,7 @@ mod tests {
         let mut pivots = [7; 64];
         let mut lit = [9];
         let mut marks = [6];
-        match session::open(
+        let board = session::open(
             lamps,
             &mut wires,
             &mut rows,
@@ -35,24 +36,49 @@ mod tests {
             &mut pivots,
             &mut lit,
             &mut marks,
-        ) {
-            Ok(board) => Ok(Desk {
-                board,
-                wires,
-                rows,
-                done,
-                pivots,
-                lit,
-                marks,
-            }),
-            Err(_) => Err(Fail::new("the board is not opened")),
-        }
+        )?;
+        Ok(Desk {
+            board,
+            wires,
+            rows,
+            done,
+            pivots,
+            lit,
+            marks,
+        })
     }
 
-    // What is answered: its number, then the number of lamps and the lamps, or the number and the place of a refusal.
-    fn ask(desk: &mut Desk, bytes: &[u8]) -> Result<(u8, u16, u64), Fail> {
+    // What the bytes of an answer say, and its lamps as a set; none where there is no such answer.
+    fn read(bytes: &[u8]) -> Option<(Answer, u64)> {
+        let (answer, lamps): (Answer, &[u8]) = match bytes {
+            [0, 1, low, high] => (
+                Answer::Refused(Refusal::Unreadable(u16::from_le_bytes([*low, *high]))),
+                &[],
+            ),
+            [0, 2, 0, 0] => (Answer::Refused(Refusal::Itself), &[]),
+            [0, 4, 0, 0] => (Answer::Refused(Refusal::NoLamp), &[]),
+            [1, low, high] => (Answer::Number(u16::from_le_bytes([*low, *high])), &[]),
+            [2, low, high, lamps @ ..] => (Answer::Lit(u16::from_le_bytes([*low, *high])), lamps),
+            [3, low, high, lamps @ ..] => (
+                Answer::Fewest(u16::from_le_bytes([*low, *high])),
+                lamps,
+            ),
+            [4, low, high, lamps @ ..] => (
+                Answer::SomeWay(u16::from_le_bytes([*low, *high])),
+                lamps,
+            ),
+            [5, low, high, lamps @ ..] => (Answer::Never(u16::from_le_bytes([*low, *high])), lamps),
+            _ => return None,
+        };
+        let mut set = [0; 8];
+        set.get_mut(..lamps.len())?.copy_from_slice(lamps);
+        Some((answer, u64::from_le_bytes(set)))
+    }
+
+    // What is answered to the bytes of a call.
+    fn tell(desk: &mut Desk, bytes: &[u8]) -> Option<(Answer, u64)> {
         let mut out = [0; 24];
-        let Ok(_) = session::call(
+        let written = session::call(
             desk.board,
             &mut desk.wires,
             &mut desk.rows,
@@ -62,88 +88,83 @@ mod tests {
             &mut desk.marks,
             bytes,
             &mut out,
-        ) else {
-            return Err(Fail::new("the memory is short"));
-        };
-        let [number, a, b, c, d, e, f, g, h, i, j, ..] = out;
-        if number == 0 {
-            return Ok((0, a as u16, u64::from_le_bytes([b, c, 0, 0, 0, 0, 0, 0])));
-        }
-        Ok((
-            number,
-            u16::from_le_bytes([a, b]),
-            u64::from_le_bytes([c, d, e, f, g, h, i, j]),
-        ))
+        )
+        .ok()?;
+        read(out.get(..written)?)
     }
 
-    // Makes the call with the number `call` of each lamp in the set.
-    fn each(rt: &impl Abort, desk: &mut Desk, call: u8, set: u64) -> Result<(), Fail> {
-        let mut left = set;
+    // What is answered to a call.
+    fn ask(desk: &mut Desk, call: Call) -> Option<(Answer, u64)> {
+        let mut bytes = [0; 5];
+        let written = calls::write_call(call, &mut bytes)?;
+        tell(desk, bytes.get(..written)?)
+    }
+
+    // Makes the call of each lamp in the set.
+    fn each<F: Fn(u16) -> Call + Drop>(rt: &impl Abort, desk: &mut Desk, call: F, set: u64)
+        requires { F.IsAlwaysCallable call }
+    {
         for i in 0..64u16 {
-            if left & 1 == 1 {
-                let [low, high] = i.to_le_bytes();
-                assert_eq!(rt; ask(desk, &[call, low, high])?, (1, i, 0));
+            if set >> i & 1 == 1 {
+                assert_eq!(rt; ask(desk, call(i)), Some((Answer::Number(i), 0)));
             }
-            left >>= 1;
         }
-        Ok(())
     }
 
-    fn wire(rt: &impl Abort, desk: &mut Desk, one: u16, other: u16) -> Result<(), Fail> {
-        let [a, b] = one.to_le_bytes();
-        let [c, d] = other.to_le_bytes();
-        assert_eq!(rt; ask(desk, &[0, a, b, c, d])?, (1, one, 0));
-        Ok(())
+    fn wire(rt: &impl Abort, desk: &mut Desk, one: u16, other: u16) {
+        assert_eq!(rt;
+            ask(desk, Call::Wire(one, other)),
+            Some((Answer::Number(one), 0))
+        );
     }
 
     // Wires each lamp to the next, but for the last of `across`; and to the one that is `across` after it, if there are rows.
     fn wall(rt: &impl Abort, lamps: u16, across: u16, rows: bool, lit: u64) -> Result<Desk, Fail> {
         let mut desk = new_desk(lamps)?;
-        let mut column = 0u16;
         for i in 0..lamps {
-            column = column.wrapping_add(1);
-            if column == across {
-                column = 0;
-            } else {
-                wire(rt, &mut desk, i, i + 1)?;
+            if !(i + 1).is_multiple_of(across) {
+                wire(rt, &mut desk, i, i + 1);
             }
             let below = i.saturating_add(across);
             if rows && below < lamps {
-                wire(rt, &mut desk, i, below)?;
+                wire(rt, &mut desk, i, below);
             }
         }
-        each(rt, &mut desk, 1, lit)?;
-        assert_eq!(rt; ask(&mut desk, &[3])?, (2, lamps, lit));
+        each(rt, &mut desk, Call::Turn, lit);
+        assert_eq!(rt; ask(&mut desk, Call::Lit), Some((Answer::Lit(lamps), lit)));
         Ok(desk)
     }
 
     #[test]
     fn walls_are_put_out(rt: HostRuntime) -> Result<(), Fail> {
-        // lamps, across, rows, what is lit, the answer's number, how many lamps it has, and one more than the power of two that the ways are
-        let table: [(u16, u16, bool, u64, u8, u32, u16); 12] = [
-            (4, 2, true, 0b1111, 3, 4, 1),
-            (4, 2, true, 0b0001, 3, 3, 1),
-            (2, 2, false, 0b01, 5, 2, 0),
-            (3, 3, false, 0b010, 3, 3, 1),
-            (3, 1, false, 0b101, 3, 2, 1),
-            (5, 5, false, 0b00001, 5, 4, 0),
-            (5, 5, false, 0b10001, 3, 3, 2),
-            (6, 3, true, 0b111111, 3, 2, 3),
-            (9, 3, true, 0b111111111, 3, 5, 1),
-            (25, 5, true, 0x1ff_ffff, 3, 15, 3),
-            (32, 2, false, 0b1111, 3, 2, 17),
-            (34, 2, false, 0b1111, 4, 2, 18),
+        // lamps, across, rows, what is lit, the answer, how many lamps it has, and one more than the power of two that the ways are
+        let table: [(u16, u16, bool, u64, Answer, u32, u16); 12] = [
+            (4, 2, true, 0b1111, Answer::Fewest(4), 4, 1),
+            (4, 2, true, 0b0001, Answer::Fewest(4), 3, 1),
+            (2, 2, false, 0b01, Answer::Never(2), 2, 0),
+            (3, 3, false, 0b010, Answer::Fewest(3), 3, 1),
+            (3, 1, false, 0b101, Answer::Fewest(3), 2, 1),
+            (5, 5, false, 0b00001, Answer::Never(5), 4, 0),
+            (5, 5, false, 0b10001, Answer::Fewest(5), 3, 2),
+            (6, 3, true, 0b111111, Answer::Fewest(6), 2, 3),
+            (9, 3, true, 0b111111111, Answer::Fewest(9), 5, 1),
+            (25, 5, true, 0x1ff_ffff, Answer::Fewest(25), 15, 3),
+            (32, 2, false, 0b1111, Answer::Fewest(32), 2, 17),
+            (34, 2, false, 0b1111, Answer::SomeWay(34), 2, 18),
         ];
-        for (lamps, across, rows, lit, number, count, ways) in table {
+        for (lamps, across, rows, lit, answer, count, ways) in table {
             let mut desk = wall(&rt, lamps, across, rows, lit)?;
-            assert_eq!(rt; ask(&mut desk, &[5])?, (1, ways, 0));
-            let (said, of, set) = ask(&mut desk, &[4])?;
-            assert_eq!(rt; (said, of, set.count_ones()), (number, lamps, count));
+            assert_eq!(rt; ask(&mut desk, Call::Ways), Some((Answer::Number(ways), 0)));
+            let Some((said, set)) = ask(&mut desk, Call::Out) else {
+                return Err(Fail::new("there is no such answer"));
+            };
+            assert_eq!(rt; (said, set.count_ones()), (answer, count));
             // pressed, a way puts all out, and a set that shows that there is none changes nothing
-            each(&rt, &mut desk, 2, set)?;
-            let left = if number == 5 { lit } else { 0 };
-            assert_eq!(rt; ask(&mut desk, &[3])?, (2, lamps, left));
-            if number == 5 {
+            each(&rt, &mut desk, Call::Press, set);
+            let never = matches!(answer, Answer::Never(_));
+            let left = if never { lit } else { 0 };
+            assert_eq!(rt; ask(&mut desk, Call::Lit), Some((Answer::Lit(lamps), left)));
+            if never {
                 assert_eq!(rt; (set & lit).count_ones() % 2, 1);
             }
         }
@@ -154,13 +175,13 @@ mod tests {
     #[test]
     fn wires_come_and_go(rt: HostRuntime) -> Result<(), Fail> {
         let mut desk = new_desk(2)?;
-        each(&rt, &mut desk, 1, 0b01)?;
-        assert_eq!(rt; ask(&mut desk, &[4])?, (3, 2, 0b01));
-        wire(&rt, &mut desk, 0, 1)?;
-        assert_eq!(rt; ask(&mut desk, &[4])?, (5, 2, 0b11));
-        wire(&rt, &mut desk, 1, 0)?;
-        assert_eq!(rt; ask(&mut desk, &[4])?, (3, 2, 0b01));
-        assert_eq!(rt; ask(&mut desk, &[5])?, (1, 1, 0));
+        each(&rt, &mut desk, Call::Turn, 0b01);
+        assert_eq!(rt; ask(&mut desk, Call::Out), Some((Answer::Fewest(2), 0b01)));
+        wire(&rt, &mut desk, 0, 1);
+        assert_eq!(rt; ask(&mut desk, Call::Out), Some((Answer::Never(2), 0b11)));
+        wire(&rt, &mut desk, 1, 0);
+        assert_eq!(rt; ask(&mut desk, Call::Out), Some((Answer::Fewest(2), 0b01)));
+        assert_eq!(rt; ask(&mut desk, Call::Ways), Some((Answer::Number(1), 0)));
         Ok(())
     }
 
@@ -168,139 +189,57 @@ mod tests {
     #[test]
     fn calls_are_refused(rt: HostRuntime) -> Result<(), Fail> {
         let mut desk = wall(&rt, 3, 3, false, 0b010)?;
-        let table: [(&[u8], u16, u64); 12] = [
-            (&[], 1, 0),
-            (&[6], 1, 0),
-            (&[3, 0], 1, 1),
-            (&[0, 9, 0, 9], 1, 4),
-            (&[1, 9], 1, 2),
-            (&[2, 9, 0, 0], 1, 3),
-            (&[0, 1, 0, 1, 0], 2, 0),
-            (&[0, 3, 0, 3, 0], 4, 0),
-            (&[0, 3, 0, 1, 0], 4, 0),
-            (&[0, 1, 0, 1, 1], 4, 0),
-            (&[1, 3, 0], 4, 0),
-            (&[2, 1, 1], 4, 0),
+        let table: [(&[u8], Refusal); 12] = [
+            (&[], Refusal::Unreadable(0)),
+            (&[6], Refusal::Unreadable(0)),
+            (&[3, 0], Refusal::Unreadable(1)),
+            (&[0, 9, 0, 9], Refusal::Unreadable(4)),
+            (&[1, 9], Refusal::Unreadable(2)),
+            (&[2, 9, 0, 0], Refusal::Unreadable(3)),
+            (&[0, 1, 0, 1, 0], Refusal::Itself),
+            (&[0, 3, 0, 3, 0], Refusal::NoLamp),
+            (&[0, 3, 0, 1, 0], Refusal::NoLamp),
+            (&[0, 1, 0, 1, 1], Refusal::NoLamp),
+            (&[1, 3, 0], Refusal::NoLamp),
+            (&[2, 1, 1], Refusal::NoLamp),
         ];
-        for (bytes, number, place) in table {
-            assert_eq!(rt; ask(&mut desk, bytes)?, (0, number, place));
+        for (bytes, refusal) in table {
+            assert_eq!(rt; tell(&mut desk, bytes), Some((Answer::Refused(refusal), 0)));
         }
-        assert_eq!(rt; ask(&mut desk, &[3])?, (2, 3, 0b010));
-        assert_eq!(rt; ask(&mut desk, &[4])?, (3, 3, 0b111));
+        assert_eq!(rt; ask(&mut desk, Call::Lit), Some((Answer::Lit(3), 0b010)));
+        assert_eq!(rt; ask(&mut desk, Call::Out), Some((Answer::Fewest(3), 0b111)));
         Ok(())
     }
 
-    // How many lamps the board has that was opened, or the number and the place of the refusal.
-    fn opened(
-        lamps: u16,
-        wires: &mut [u64],
-        rows: &mut [u64],
-        done: &mut [u64],
-        pivots: &mut [u16],
-        lit: &mut [u64],
-        marks: &mut [u64],
-    ) -> (u16, u8, u16) {
-        match session::open(lamps, wires, rows, done, pivots, lit, marks) {
-            Ok(board) => (board.lamps, 0, 0),
-            Err(refusal) => (0, refusal.number(), refusal.place()),
-        }
-    }
-
     #[test]
-    fn openings_are_refused(rt: HostRuntime) {
-        for (lamps, said) in [
-            (0, (0, 3, 0)),
-            (1, (1, 0, 0)),
-            (3, (3, 0, 0)),
-            (4, (0, 3, 1)),
-            (1024, (0, 3, 1)),
-            (1025, (0, 3, 0)),
-        ] {
-            assert_eq!(rt;
-                opened(
-                    lamps,
-                    &mut [9; 3],
-                    &mut [9; 3],
-                    &mut [9; 3],
-                    &mut [9; 3],
-                    &mut [9],
-                    &mut [9],
-                ),
-                said
+    fn openings_are_refused(rt: HostRuntime) -> Result<(), Fail> {
+        // lamps, how long each slice is, and how many lamps the board has that is opened
+        let table: [(u16, [usize; 6], Result<u16, Refusal>); 12] = [
+            (0, [3, 3, 3, 3, 1, 1], Err(Refusal::BadSize)),
+            (1, [3, 3, 3, 3, 1, 1], Ok(1)),
+            (3, [3, 3, 3, 3, 1, 1], Ok(3)),
+            (4, [3, 3, 3, 3, 1, 1], Err(Refusal::ShortMemory)),
+            (1024, [3, 3, 3, 3, 1, 1], Err(Refusal::ShortMemory)),
+            (1025, [3, 3, 3, 3, 1, 1], Err(Refusal::BadSize)),
+            (3, [2, 3, 3, 3, 1, 1], Err(Refusal::ShortMemory)),
+            (3, [3, 2, 3, 3, 1, 1], Err(Refusal::ShortMemory)),
+            (3, [3, 3, 2, 3, 1, 1], Err(Refusal::ShortMemory)),
+            (3, [3, 3, 3, 2, 1, 1], Err(Refusal::ShortMemory)),
+            (3, [3, 3, 3, 3, 0, 1], Err(Refusal::ShortMemory)),
+            (3, [3, 3, 3, 3, 1, 0], Err(Refusal::ShortMemory)),
+        ];
+        for (lamps, [wires, rows, done, pivots, lit, marks], said) in table {
+            let opened = session::open(
+                lamps,
+                &mut vec![in rt.alloc(); 9; wires]?,
+                &mut vec![in rt.alloc(); 9; rows]?,
+                &mut vec![in rt.alloc(); 9; done]?,
+                &mut vec![in rt.alloc(); 9; pivots]?,
+                &mut vec![in rt.alloc(); 9; lit]?,
+                &mut vec![in rt.alloc(); 9; marks]?,
             );
+            assert_eq!(rt; opened.map(|board| board.lamps), said);
         }
-        let short = (0, 3, 1);
-        assert_eq!(rt;
-            opened(
-                3,
-                &mut [9; 2],
-                &mut [9; 3],
-                &mut [9; 3],
-                &mut [9; 3],
-                &mut [9],
-                &mut [9],
-            ),
-            short
-        );
-        assert_eq!(rt;
-            opened(
-                3,
-                &mut [9; 3],
-                &mut [9; 2],
-                &mut [9; 3],
-                &mut [9; 3],
-                &mut [9],
-                &mut [9],
-            ),
-            short
-        );
-        assert_eq!(rt;
-            opened(
-                3,
-                &mut [9; 3],
-                &mut [9; 3],
-                &mut [9; 2],
-                &mut [9; 3],
-                &mut [9],
-                &mut [9],
-            ),
-            short
-        );
-        assert_eq!(rt;
-            opened(
-                3,
-                &mut [9; 3],
-                &mut [9; 3],
-                &mut [9; 3],
-                &mut [9; 2],
-                &mut [9],
-                &mut [9],
-            ),
-            short
-        );
-        assert_eq!(rt;
-            opened(
-                3,
-                &mut [9; 3],
-                &mut [9; 3],
-                &mut [9; 3],
-                &mut [9; 3],
-                &mut [],
-                &mut [9],
-            ),
-            short
-        );
-        assert_eq!(rt;
-            opened(
-                3,
-                &mut [9; 3],
-                &mut [9; 3],
-                &mut [9; 3],
-                &mut [9; 3],
-                &mut [9],
-                &mut [],
-            ),
-            short
-        );
+        Ok(())
     }
 }
