@@ -48,26 +48,32 @@ mod tests {
         })
     }
 
+    // The refusal of a call with this number and place.
+    fn refusal(number: u8, place: u16) -> Option<Refusal> {
+        match (number, place) {
+            (1, _) => Some(Refusal::Unreadable(place)),
+            (2, 0) => Some(Refusal::Itself),
+            (4, 0) => Some(Refusal::NoLamp),
+            _ => None,
+        }
+    }
+
     // What the bytes of an answer say, and its lamps as a set; none where there is no such answer.
     fn read(bytes: &[u8]) -> Option<(Answer, u64)> {
-        let (answer, lamps): (Answer, &[u8]) = match bytes {
-            [0, 1, low, high] => (
-                Answer::Refused(Refusal::Unreadable(u16::from_le_bytes([*low, *high]))),
-                &[],
-            ),
-            [0, 2, 0, 0] => (Answer::Refused(Refusal::Itself), &[]),
-            [0, 4, 0, 0] => (Answer::Refused(Refusal::NoLamp), &[]),
-            [1, low, high] => (Answer::Number(u16::from_le_bytes([*low, *high])), &[]),
-            [2, low, high, lamps @ ..] => (Answer::Lit(u16::from_le_bytes([*low, *high])), lamps),
-            [3, low, high, lamps @ ..] => (
-                Answer::Fewest(u16::from_le_bytes([*low, *high])),
-                lamps,
-            ),
-            [4, low, high, lamps @ ..] => (
-                Answer::SomeWay(u16::from_le_bytes([*low, *high])),
-                lamps,
-            ),
-            [5, low, high, lamps @ ..] => (Answer::Never(u16::from_le_bytes([*low, *high])), lamps),
+        if let [0, number, low, high] = bytes {
+            let refusal = refusal(*number, u16::from_le_bytes([*low, *high]))?;
+            return Some((Answer::Refused(refusal), 0));
+        }
+        let [kind, low, high, lamps @ ..] = bytes else {
+            return None;
+        };
+        let n = u16::from_le_bytes([*low, *high]);
+        let answer = match kind {
+            1 => Answer::Number(n),
+            2 => Answer::Lit(n),
+            3 => Answer::Fewest(n),
+            4 => Answer::SomeWay(n),
+            5 => Answer::Never(n),
             _ => return None,
         };
         let mut set = [0; 8];
