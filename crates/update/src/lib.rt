@@ -18,12 +18,13 @@ pub fn choose(steps: &Steps, l: u16) -> Option<u16>
     ensures { Taking steps.now.n (width_of steps.now.n) steps.now.done.now (column_of steps.now.pivots.now) l steps.now.n result }
 {
     let mut chosen = None;
-    for i in 0..steps.n {
-        if steps.is_made_with(i, l) {
-            if steps.pivots[i as usize] >= steps.n {
-                return Some(i);
+    for (i, column) in steps.pivots.iter().enumerate() {
+        let k = i as u16;
+        if steps.is_made_with(k, l) {
+            if *column >= steps.n {
+                return Some(k);
             }
-            chosen = Some(i);
+            chosen = Some(k);
         }
     }
     chosen
