@@ -1,4 +1,4 @@
-use Rattle.std.proofs.Common.{Option, ℕ, ◌+◌, sym, subst}
+use Rattle.std.proofs.Common.{Option, ℕ, ◌+◌, sym, subst, arith}
 use Rattle.matrix.specs.Cells.{width_of}
 use Rattle.echelon.specs.Steps.{column_of}
 use Rattle.update.proofs.Choosing.{SoFar, so_far_none, so_far_skip, so_far_take, taking_end}
