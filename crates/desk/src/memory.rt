@@ -146,12 +146,13 @@ impl<'a> Memory<'a> {
         }
     }
 
-    // k + 1 if there are 2^k ways, or 0 if there is none.
+    // k + 1 if there are 2^k ways, or 0 if there is none: a number and no Option, as it goes into the bytes of the answer.
     fn ways(&mut self) -> u16
         ensures performs { (b : Wall) → Holds (held self.old) b → Performs (held self.old) (held self.new) b (meant Call.Ways) (number result) }
         ensures place { InPlace self.old self.new }
     {
         self.renew();
+        // as many words as the widest row has: nothing here asks for memory
         let mut space = [0; 16];
         let width = self.board.width();
         let lit = &mut *self.lit;

@@ -5,6 +5,7 @@ ghost use Rattle.matrix.specs.Cells.{width_of, row_of, cell};
 ghost use Rattle.matrix.specs.Said.{RowAdded};
 
 // The `n` rows of a system in reduced steps: the rows, of which rows of the system each is the sum, and the column that each owns, or `n` where it is zero.
+// Numbers and slices, as the memory is lent by other languages.
 #[derive(Drop)]
 pub struct Steps<'a> {
     pub n: u16,

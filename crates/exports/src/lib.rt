@@ -9,7 +9,7 @@ ghost use Rattle.exports.specs.Codes.{code, NoBoard, Words, Opens, Answers};
 use calls::Refusal;
 use wires::Board;
 
-// The number that is returned at a refusal.
+// The number that is returned at a refusal. A function, and no `From`, since neither type is of this crate.
 fn refused(refusal: Refusal) -> i64
     ensures { result ≡ code refusal }
 {
@@ -34,7 +34,7 @@ pub extern "C" fn lights_words(lamps: u64) -> i64
     session::asked(board).table as i64
 }
 
-// Opens a board of `lamps` lamps in the lent memory: no wires, every lamp off. Returns how many lamps it has.
+// Opens a board of `lamps` lamps in the lent memory: no wires, every lamp off. Returns how many lamps it has. C hands over each slice by itself.
 #[unsafe(no_mangle)]
 pub extern "C" fn lights_open(
     lamps: u64,

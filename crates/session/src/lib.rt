@@ -162,6 +162,7 @@ pub fn call(
         lit,
         marks,
     };
+    // as many words as the widest row has: nothing here asks for memory
     let mut space = [0; 16];
     Ok(reply(&mut memory, bytes, &mut space[0..sizes.row], answer))
 }

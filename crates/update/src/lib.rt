@@ -113,7 +113,8 @@ fn set_first(row: &mut [u64], n: u16)
     }
 }
 
-// The steps of a system of zeros, with every row marked.
+// The steps of a system of zeros, with every row marked. Here and in `renew` the slices come one by one: of a struct of steps that is made from the fields of
+// another struct, that one would not learn what was written.
 pub fn start(rows: &mut [u64], done: &mut [u64], pivots: &mut [u16], marks: &mut [u64], n: u16)
     requires small { n ≤ 1024 }
     requires rows { length rows.old ≡ n * width_of n }
