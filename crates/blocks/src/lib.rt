@@ -167,14 +167,7 @@ fn settle_block(steps: &mut Steps, block: Block)
     ensures place { InPlace steps.old steps.new }
 {
     for t in block.first..block.end {
-        let pivot = match steps.first_bit(t) {
-            Some(column) => {
-                steps.clear_column(block.first, block.end, t, column);
-                column
-            }
-            None => steps.n,
-        };
-        steps.pivots[t as usize] = pivot;
+        steps.take_pivot(block.first, block.end, t);
     }
 }
 
