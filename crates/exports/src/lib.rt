@@ -23,6 +23,8 @@ fn board_of(lamps: u64) -> Option<Board>
     Board::new(u16::try_from(lamps).ok()?)
 }
 
+// The functions for other languages return a number, so a check returns the refusal's by `let .. else`, and not by `?`.
+
 // How many words each of `wires`, `rows` and `done` must have at least.
 #[unsafe(no_mangle)]
 pub extern "C" fn lights_words(lamps: u64) -> i64
