@@ -1,12 +1,13 @@
 -- A block's rows take their pivots among themselves, and then the pivots are cleared from the other rows. Assumes nothing.
-use Rattle.std.proofs.Common.{◌≡◌, ℕ, ◌+◌, ◌-◌, ◌<◌, ◌≤◌, false, ◌&&◌, ltb, ◌≢◌, ◌⊎◌, List, length, drop, sym, ap, ◌∙◌, subst, ap₂, inl, inr, arith, length-drop, length-take, get_or-drop, get_or-take}
+use Rattle.std.proofs.Common.{◌≡◌, ℕ, ◌+◌, ◌-◌, ◌<◌, ◌≤◌, ◌&&◌, ltb, ◌⊎◌, List, length, drop, sym, refl, ap, ◌∙◌, subst, ap₂, inl, inr, arith, length-drop, length-take, get_or-drop, get_or-take}
 use Rattle.std.proofs.lemmas.Bool.{cases_eq}
+use Rattle.gf2.specs.Rows.{Same, nowhere}
 use Rattle.gf2.specs.Blocks.{Sweeps}
 use Rattle.gf2.proofs.Blocks.{stepping_none, stepping_pivot, stepped_sweep}
 use Rattle.bits.specs.Said.{First}
 use Rattle.matrix.specs.Cells.{width_of, cell}
 use Rattle.echelon.specs.declared.steps.Steps.{Steps}
-use Rattle.echelon.specs.Steps.{column_of, Clearing}
+use Rattle.echelon.specs.Steps.{column_of, Clearing, TakesPivot}
 use Rattle.echelon.specs.Places.{InPlace}
 use Rattle.echelon.proofs.Kept.{kept_both}
 use Rattle.blocks.specs.Said.{block_of, number, hits, entry_of, asked, Tabled, Swept, BlockSettles, BlockReduces}
@@ -14,41 +15,46 @@ use Rattle.blocks.proofs.Swept.{same_entry, swept_sweeps, kept_sweep}
 
 -- ---- one turn of the loop over the block's rows
 
-module _ (n width : ℕ) (rs ts : List ℕ) (c : ℕ → ℕ) (rs₁ ts₁ : List ℕ) (c₁ c₂ : ℕ → ℕ) (first t end x : ℕ) (ft : first ≤ t) (te : t < end) (en : end ≤ n)
-    (so_far : BlockSettles n width rs ts c rs₁ ts₁ c₁ first t end) (xn : x ≤ n)
-    (here : c₂ t ≡ x) (other : (i : ℕ) → i ≢ t → c₂ i ≡ c₁ i) where
-  column : (i : ℕ) → first ≤ i → i < t + 1 → c₂ i ≤ n
-  column i g l = elim (cases_eq i t) [
-    | inl e ↦ subst (λ z. c₂ z ≤ n) (sym e) (subst (λ z. z ≤ n) (sym here) xn)
-    | inr ne ↦ subst (λ z. z ≤ n) (sym (other i ne)) (so_far.column i g (omega arith))
+module _ (n width : ℕ) (rs ts : List ℕ) (c : ℕ → ℕ) (rs₁ ts₁ rs₂ ts₂ : List ℕ) (c₁ c₂ : ℕ → ℕ) (first t end : ℕ) (ft : first ≤ t) (te : t < end) (en : end ≤ n)
+    (so_far : BlockSettles n width rs ts c rs₁ ts₁ c₁ first t end) (takes : TakesPivot n width rs₁ ts₁ c₁ rs₂ ts₂ c₂ first end t) where
+  column : c₂ t ≤ n → (i : ℕ) → first ≤ i → i < t + 1 → c₂ i ≤ n
+  column xn i g l = elim (cases_eq i t) [
+    | inl e ↦ subst (λ z. c₂ z ≤ n) (sym e) xn
+    | inr ne ↦ subst (λ z. z ≤ n) (sym (takes.columns i ne)) (so_far.column i g (omega arith))
   ]
 
   columns : (i : ℕ) → (i < first) ⊎ (t + 1 ≤ i) → c₂ i ≡ c i
   columns i o = elim o [
-    | inl l ↦ other i (omega arith) ∙ so_far.columns i (inl l)
-    | inr h ↦ other i (omega arith) ∙ so_far.columns i (inr (omega arith))
+    | inl l ↦ takes.columns i (omega arith) ∙ so_far.columns i (inl l)
+    | inr h ↦ takes.columns i (omega arith) ∙ so_far.columns i (inr (omega arith))
   ]
 
   -- row t is zero,
-  pub settles_zero : n ≤ x → ((j : ℕ) → j < n → cell rs₁ width t j ≡ false) → BlockSettles n width rs ts c rs₁ ts₁ c₂ first (t + 1) end
-  settles_zero nx off = record {
+  zero_row : Same n (cell rs₁ width t) nowhere → c₂ t ≡ n → BlockSettles n width rs ts c rs₁ ts₁ c₂ first (t + 1) end
+  zero_row off here = record {
     kept = so_far.kept;
-    column = column;
+    column = column (omega (arith, here));
     columns = columns;
     others = so_far.others;
-    steps = λ s. stepping_none n (cell rs₁ width) c₁ c₂ first t end x ft te en here other (so_far.steps s) nx off;
+    steps = λ s. stepping_none n (cell rs₁ width) c₁ c₂ first t end n ft te en here takes.columns (so_far.steps s) (omega arith) off;
   }
 
   -- or has a pivot, which is cleared from the block
-  pub settles_pivot : First n (cell rs₁ width t) x → (rs₂ ts₂ : List ℕ) → Clearing width rs₁ ts₁ rs₂ ts₂ first end t x
-      → BlockSettles n width rs ts c rs₂ ts₂ c₂ first (t + 1) end
-  settles_pivot bit rs₂ ts₂ clear = record {
+  pivot : First n (cell rs₁ width t) (c₂ t) → Clearing width rs₁ ts₁ rs₂ ts₂ first end t (c₂ t) → BlockSettles n width rs ts c rs₂ ts₂ c₂ first (t + 1) end
+  pivot bit clear = record {
     kept = kept_both n _ _ _ _ _ _ so_far.kept (clear.kept n en (omega arith));
-    column = column;
+    column = column (omega (arith, bit.within));
     columns = columns;
     others = λ i o j. clear.clears.outside i o j ∙ so_far.others i o j;
-    steps = λ s. stepping_pivot n (cell rs₁ width) c₁ c₂ first t end x ft te en here other (so_far.steps s) (cell rs₂ width) bit.within bit.here clear.clears;
+    steps = λ s. stepping_pivot n (cell rs₁ width) c₁ c₂ first t end (c₂ t) ft te en refl takes.columns (so_far.steps s) (cell rs₂ width) bit.within bit.here clear.clears;
   }
+
+  pub settles_row : BlockSettles n width rs ts c rs₂ ts₂ c₂ first (t + 1) end
+  settles_row = elim takes.taken [
+    | inl z ↦ subst (λ xs. BlockSettles n width rs ts c xs ts₂ c₂ first (t + 1) end) (sym z.2)
+        (subst (λ ys. BlockSettles n width rs ts c rs₁ ys c₂ first (t + 1) end) (sym z.3) (zero_row z.0 z.1))
+    | inr p ↦ pivot p.0 p.1
+  ]
 
 -- ---- the whole block
 

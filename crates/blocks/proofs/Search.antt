@@ -1,26 +1,20 @@
 -- The search for a row with a bit set, word by word. Assumes nothing.
-use Rattle.std.proofs.Common.{◌≡◌, ℕ, ◌+◌, ◌*◌, ◌^◌, ◌<◌, ◌≤◌, ◌≢◌, Bool, true, false, List, Option, Some, None, MatchBool, MatchOption, length, ◌∙◌, zero-le}
-use Rattle.std.specs.List.{AllWithin, HoldsAt}
+use Rattle.std.proofs.Common.{◌≡◌, ℕ, ◌+◌, ◌*◌, ◌^◌, ◌<◌, ◌≢◌, true, false, List, length, get_or, ap, ◌∙◌, subst, arith}
 use Rattle.bits.specs.Bits.{bit_of}
 use Rattle.bits.proofs.Words.{some_bit}
 use Rattle.bits.proofs.Rows.{bit_of_word, zero_words}
-use Rattle.matrix.specs.Cells.{cell}
-use Rattle.blocks.specs.Said.{HasABit, NextRow}
+use Rattle.matrix.specs.Cells.{width_of, row_of, cell}
 
--- what `any` says of a row's words
-pub some_word : (ws : List ℕ) (r : Bool)
-    → MatchBool r ((k : ℕ) × (k < length ws) × HoldsAt (λ w. (w ≢ 0) × (w < 2 ^ 64)) ws k) (AllWithin (λ w. w ≡ 0) ws 0 (length ws))
-    → HasABit (bit_of ws) r
-some_word ws true h =
-    let word = h.2 0 in
-    let found = some_bit 64 _ word.1 word.0 in
-    (64 * h.0 + found.0, bit_of_word ws h.0 found.0 found.1 ∙ found.2)
-some_word ws false h = zero_words ws (λ k l. h k 0 zero-le l)
+-- the words of row i
+module _ (words ws : List ℕ) (n width i : ℕ) (is : words ≡ row_of ws width i) (wide : width ≡ width_of n) where
+  same : (j : ℕ) → bit_of words j ≡ cell ws (width_of n) i j
+  same j = ap (λ r. bit_of r j) is ∙ ap (λ w. cell ws w i j) wide
 
--- what `find` says of the rows
-pub some_row : (width : ℕ) (ws : List ℕ) (from to : ℕ) (r : Option ℕ)
-    → MatchOption r ((i : ℕ) → from ≤ i → i < to → HasABit (cell ws width i) false)
-    (λ i. (from ≤ i) × (i < to) × HasABit (cell ws width i) true × ((k : ℕ) → from ≤ k → k < i → HasABit (cell ws width k) false))
-    → NextRow width ws from to r
-some_row width ws from to (Some r) h = record { least = h.0; most = h.1; here = h.2; before = h.3 }
-some_row width ws from to None h = h
+  pub zero_row : (k : ℕ) → k ≡ length words → ((p : ℕ) → p < k → get_or words p 0 ≡ 0) → (j : ℕ) → cell ws (width_of n) i j ≡ false
+  zero_row k all zeros j = subst (λ x. x ≡ false) (same j) (zero_words words (λ p l. zeros p (omega arith)) j)
+
+  pub some_cell : (q : ℕ) → get_or words q 0 < 2 ^ 64 → get_or words q 0 ≢ 0 → (j : ℕ) × (cell ws (width_of n) i j ≡ true)
+  some_cell q fits ne =
+      let found = some_bit 64 _ fits ne in
+      let j = 64 * q + found.0 in
+      (j, subst (λ x. x ≡ true) (same j) (bit_of_word words q found.0 found.1 ∙ found.2))

@@ -1,23 +1,18 @@
 -- What the steps of elimination by blocks do in memory: rs and ts are the rows and what was done before, rs' and ts' after. A block is `count` rows from `first` on.
 -- Assumes nothing: these are definitions.
-use Rattle.std.specs.Prelude.{◌≡◌, ℕ, zero, suc, ◌+◌, ◌-◌, ◌^◌, ◌<◌, ◌≤◌, Bool, true, false, ◌&&◌, ◌⊎◌, List, length, take, drop, Option, Some, None, nat_lt}
+use Rattle.std.specs.Prelude.{◌≡◌, ℕ, zero, suc, ◌+◌, ◌-◌, ◌^◌, ◌<◌, ◌≤◌, true, false, ◌&&◌, ◌⊎◌, List, length, take, drop, Option, Some, None, nat_lt}
 use Rattle.gf2.specs.Rows.{pick, differ, Row, dot}
 use Rattle.gf2.specs.Blocks.{Stepped, Stepping}
 use Rattle.matrix.specs.Cells.{width_of, cell}
 use Rattle.echelon.specs.Steps.{column_of, Kept}
 use Rattle.echelon.specs.declared.steps.Steps.{Steps}
 
--- some bit of the row is set
-abbrev pub HasABit : Row → Bool → Type 0
-HasABit row true = (j : ℕ) × (row j ≡ true)
-HasABit row false = (j : ℕ) → row j ≡ false
-
 -- r is the first row from `from` on, below `to`, that has a bit set
 pub record FirstRow (width : ℕ) (ws : List ℕ) (from to r : ℕ) : Type 0 where
   pub least : from ≤ r
   pub most : r < to
   pub before : (i : ℕ) → from ≤ i → i < r → (j : ℕ) → cell ws width i j ≡ false
-  pub here : HasABit (cell ws width r) true
+  pub here : (j : ℕ) × (cell ws width r j ≡ true)
 
 -- the first row from `from` on, below `to`, that has a bit set; or none, where none has
 abbrev pub NextRow : ℕ → List ℕ → ℕ → ℕ → Option ℕ → Type 0

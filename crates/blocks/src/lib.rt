@@ -8,7 +8,7 @@ ghost use Rattle.matrix.specs.Cells.{width_of, cell};
 ghost use Rattle.matrix.specs.Said.{RowPut};
 ghost use Rattle.echelon.specs.Steps.{column_of, InSteps};
 ghost use Rattle.echelon.specs.Places.{InPlace};
-ghost use Rattle.blocks.specs.Said.{HasABit, asked, NextRow, Tabled, Doubled, Swept, BlockSettles, BlockReduces};
+ghost use Rattle.blocks.specs.Said.{asked, NextRow, Tabled, Doubled, Swept, BlockSettles, BlockReduces};
 
 use echelon::Steps;
 
@@ -34,23 +34,22 @@ struct Tables {
     done: [u64; TABLE],
 }
 
-// Whether row `i` has a bit set, in any of its words.
-fn has_a_bit(steps: &Steps, i: u16) -> bool
-    requires { i < steps.now.n }
-    ensures { HasABit (cell steps.now.rows.now (width_of steps.now.n) i) result }
-{
-    let width = steps.width();
-    let start = i as usize * width;
-    steps.rows[start..start + width]
-        .iter()
-        .any(|word| *word != 0)
-}
-
 // The first row from `from` on that has a bit set.
 fn next_row(steps: &Steps, from: u16) -> Option<u16>
     ensures { NextRow (width_of steps.now.n) steps.now.rows.now from steps.now.n result }
 {
-    (from..steps.n).find(|i| has_a_bit(steps, *i))
+    let width = steps.width();
+    let mut found = None;
+    // nested loops left by a label, as the list of forms in docs/DECISIONS.md has it
+    'rows: for i in from..steps.n {
+        for word in matrix::row(steps.rows, width, i as usize) {
+            if *word != 0 {
+                found = Some(i);
+                break 'rows;
+            }
+        }
+    }
+    found
 }
 
 // The four functions from here to `add_entry` take a table, a matrix and their width one by one: each works on the rows first and then on what was done, and a struct of the
@@ -168,14 +167,7 @@ fn settle_block(steps: &mut Steps, block: Block)
     ensures place { InPlace steps.old steps.new }
 {
     for t in block.first..block.end {
-        let pivot = match steps.first_bit(t) {
-            Some(column) => {
-                steps.clear_column(block.first, block.end, t, column);
-                column
-            }
-            None => steps.n,
-        };
-        steps.pivots[t as usize] = pivot;
+        steps.take_pivot(block.first, block.end, t);
     }
 }
 

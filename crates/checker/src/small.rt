@@ -14,7 +14,7 @@ use calls::Refusal;
 use claims::Verdict;
 use wires::Board;
 
-// A board of at most 64 lamps: a word of wires for each lamp, and a word of what is lit.
+// A board of at most 64 lamps: a word of wires for each lamp, and a word of what is lit. There is room for 64, so that none is asked for.
 #[derive(Drop)]
 pub struct SmallBoard {
     board: Board,
@@ -23,7 +23,7 @@ pub struct SmallBoard {
     ghost few: { board.lamps ≤ 64 },
 }
 
-// The wire between two lamps comes or goes, in the words that the board has of these.
+// The wire between two lamps comes or goes, in the words that the board has of these. By itself, since no part of a field can be lent from a struct that keeps a fact.
 fn toggle(board: Board, wires: &mut [u64; 64], i: u16, j: u16)
     requires few { board.lamps ≤ 64 }
     requires one { i < board.lamps }

@@ -29,6 +29,7 @@ pub fn check_presses(board: Board, wires: &[u64], lit: &[u64], presses: &[u64]) 
     ensures { (ws : List Wire) (s : Lamps) → HoldsWires board.lamps wires.now ws → HoldsLit board.lamps lit.now s → PressesChecked ws s (lamps_of board.lamps presses.now) result }
 {
     let width = board.width();
+    // as many words as the widest row has: nothing here asks for memory
     let mut space = [0; 16];
     let after = &mut space[0..width];
     after.copy_from_slice(lit);

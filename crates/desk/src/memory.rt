@@ -44,6 +44,8 @@ impl<'a> Memory<'a> {
         update::start(self.rows, self.done, self.pivots, self.marks, board.lamps);
     }
 
+    // In these three each check hands on its value or returns the refusal by `let .. else`, and not by `?`: the form that docs/DECISIONS.md has for this place.
+
     // The wire between two lamps comes, or goes if it is there, and its two rows are marked. Answers the first lamp.
     fn wire(&mut self, i: u16, j: u16) -> Result<u16, Refusal>
         ensures performs { (b : Wall) → Holds (held self.old) b → Performs (held self.old) (held self.new) b (meant (Call.Wire i j)) (said (answer_of result) []) }
@@ -146,12 +148,13 @@ impl<'a> Memory<'a> {
         }
     }
 
-    // k + 1 if there are 2^k ways, or 0 if there is none.
+    // k + 1 if there are 2^k ways, or 0 if there is none: a number and no Option, as it goes into the bytes of the answer.
     fn ways(&mut self) -> u16
         ensures performs { (b : Wall) → Holds (held self.old) b → Performs (held self.old) (held self.new) b (meant Call.Ways) (number result) }
         ensures place { InPlace self.old self.new }
     {
         self.renew();
+        // as many words as the widest row has: nothing here asks for memory
         let mut space = [0; 16];
         let width = self.board.width();
         let lit = &mut *self.lit;

@@ -1,9 +1,10 @@
 -- What the steps of elimination do to rows in memory: rs and ts are the rows and what was done before, rs' and ts' after.
 -- Assumes nothing: these are definitions.
-use Rattle.std.specs.Prelude.{◌≡◌, ℕ, ◌<◌, ◌≤◌, ◌≢◌, List, slice_index}
-use Rattle.gf2.specs.Rows.{Rows}
+use Rattle.std.specs.Prelude.{◌≡◌, ℕ, ◌<◌, ◌≤◌, ◌≢◌, ◌⊎◌, List, slice_index}
+use Rattle.gf2.specs.Rows.{Rows, Same, nowhere}
 use Rattle.gf2.specs.Reduction.{Tracks, Pivots, Settled, Reduced}
 use Rattle.gf2.specs.Blocks.{Clears}
+use Rattle.bits.specs.Said.{First}
 use Rattle.matrix.specs.Cells.{row_of, cell, Spare}
 
 -- the column of row i's pivot, as the memory has it
@@ -26,6 +27,11 @@ pub record Reducing (n width : ℕ) (rs ts rs' ts' : List ℕ) (c : ℕ → ℕ)
 pub record Clearing (width : ℕ) (rs ts rs' ts' : List ℕ) (from to k j : ℕ) : Type 0 where
   pub kept : (n : ℕ) → to ≤ n → k < n → Kept n (cell rs width) (cell ts width) (cell rs' width) (cell ts' width)
   pub clears : Clears (cell rs width) (cell rs' width) from to k j
+
+-- row k is off and has no pivot; or its first bit is its pivot, which is cleared from those rows from `from` to `to` that have it
+pub record TakesPivot (n width : ℕ) (rs ts : List ℕ) (c : ℕ → ℕ) (rs' ts' : List ℕ) (c' : ℕ → ℕ) (from to k : ℕ) : Type 0 where
+  pub taken : (Same n (cell rs width k) nowhere × (c' k ≡ n) × (rs' ≡ rs) × (ts' ≡ ts)) ⊎ (First n (cell rs width k) (c' k) × Clearing width rs ts rs' ts' from to k (c' k))
+  pub columns : (i : ℕ) → i ≢ k → c' i ≡ c i
 
 -- row k is settled: if every other row was, all are
 pub record Settles (n width : ℕ) (rs ts : List ℕ) (c : ℕ → ℕ) (rs' ts' : List ℕ) (c' : ℕ → ℕ) (k : ℕ) : Type 0 where

@@ -5,6 +5,7 @@ ghost use Rattle.matrix.specs.Cells.{width_of, row_of, cell};
 ghost use Rattle.matrix.specs.Said.{RowAdded};
 
 // The `n` rows of a system in reduced steps: the rows, of which rows of the system each is the sum, and the column that each owns, or `n` where it is zero.
+// Numbers and slices, as the memory is lent by other languages.
 #[derive(Drop)]
 pub struct Steps<'a> {
     pub n: u16,
@@ -18,7 +19,7 @@ pub struct Steps<'a> {
 }
 
 impl<'a> Steps<'a> {
-    ghost use Rattle.echelon.specs.Steps.{column_of, Reducing, Clearing, Settles};
+    ghost use Rattle.echelon.specs.Steps.{column_of, Reducing, Clearing, TakesPivot, Settles};
     ghost use Rattle.echelon.specs.Places.{InPlace};
     ghost use Rattle.echelon.specs.Laws.{ZeroRows};
 
@@ -112,6 +113,24 @@ impl<'a> Steps<'a> {
         }
     }
 
+    // Row `k` takes its first bit as its pivot, which is cleared from each other row from `from` to `to`, or is zero.
+    pub fn take_pivot(&mut self, from: u16, to: u16, k: u16)
+        requires order { from ≤ to }
+        requires to { to ≤ self.old.n }
+        requires row { k < self.old.n }
+        ensures taken { TakesPivot self.old.n (width_of self.old.n) self.old.rows.now self.old.done.now (column_of self.old.pivots.now) self.new.rows.now self.new.done.now (column_of self.new.pivots.now) from to k }
+        ensures place { InPlace self.old self.new }
+    {
+        let pivot = match self.first_bit(k) {
+            Some(column) => {
+                self.clear_column(from, to, k, column);
+                column
+            }
+            None => self.n,
+        };
+        self.pivots[k as usize] = pivot;
+    }
+
     // Row `k` is reduced by the others, then takes a pivot, which is cleared from them, or is zero.
     pub fn settle(&mut self, k: u16)
         requires { k < self.old.n }
@@ -119,14 +138,7 @@ impl<'a> Steps<'a> {
         ensures place { InPlace self.old self.new }
     {
         self.reduce_row(k);
-        let pivot = match self.first_bit(k) {
-            Some(column) => {
-                self.clear_column(0, self.n, k, column);
-                column
-            }
-            None => self.n,
-        };
-        self.pivots[k as usize] = pivot;
+        self.take_pivot(0, self.n, k);
     }
 
     // No row has a pivot.

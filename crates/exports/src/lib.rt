@@ -9,7 +9,7 @@ ghost use Rattle.exports.specs.Codes.{code, NoBoard, Words, Opens, Answers};
 use calls::Refusal;
 use wires::Board;
 
-// The number that is returned at a refusal.
+// The number that is returned at a refusal. A function, and no `From`, since neither type is of this crate.
 fn refused(refusal: Refusal) -> i64
     ensures { result ≡ code refusal }
 {
@@ -23,6 +23,8 @@ fn board_of(lamps: u64) -> Option<Board>
     Board::new(u16::try_from(lamps).ok()?)
 }
 
+// The functions for other languages return a number, so a check returns the refusal's by `let .. else`, and not by `?`.
+
 // How many words each of `wires`, `rows` and `done` must have at least.
 #[unsafe(no_mangle)]
 pub extern "C" fn lights_words(lamps: u64) -> i64
@@ -34,7 +36,7 @@ pub extern "C" fn lights_words(lamps: u64) -> i64
     session::asked(board).table as i64
 }
 
-// Opens a board of `lamps` lamps in the lent memory: no wires, every lamp off. Returns how many lamps it has.
+// Opens a board of `lamps` lamps in the lent memory: no wires, every lamp off. Returns how many lamps it has. C hands over each slice by itself.
 #[unsafe(no_mangle)]
 pub extern "C" fn lights_open(
     lamps: u64,

@@ -74,6 +74,7 @@ pub fn collect(steps: &Steps, sets: &mut [u64]) -> u16
     ensures sets { Collected (free steps.now.n (column_of steps.now.pivots.now)) (QuietSet steps.now.n (cell steps.now.rows.now (width_of steps.now.n)) (column_of steps.now.pivots.now)) steps.now.n result (cell sets.new (width_of steps.now.n)) }
     ensures spans { result ≤ 16 → (A T : Rows) → Tracks steps.now.n A (cell steps.now.rows.now (width_of steps.now.n)) T → Pivots steps.now.n (cell steps.now.rows.now (width_of steps.now.n)) (column_of steps.now.pivots.now) → Spans steps.now.n A result (cell sets.new (width_of steps.now.n)) × OneChoice steps.now.n result (cell sets.new (width_of steps.now.n)) }
 {
+    // as many words as the widest row has: nothing here asks for memory
     let mut columns = [0; 16];
     mark_pivots(steps, &mut columns);
     collect_by(
@@ -149,6 +150,7 @@ fn improve(row: &mut [u64], k: usize, sets: &[u64], against: &Option<&[u64]>)
     requires against { IfSome against.now (λ set. length set.now ≡ length row.old) }
     ensures { Least (64 * length row.old) k (cell sets.now (length row.old)) (may_take (64 * length row.old) (option_copied against.now)) (bit_of row.old) (bit_of row.old) (bit_of row.new) (tally (bit_of row.old) (64 * length row.old)) (tally (bit_of row.new) (64 * length row.old)) }
 {
+    // as many words as the widest row has: nothing here asks for memory
     let mut space = [0; 16];
     let current = &mut space[0..row.len()];
     current.copy_from_slice(row);
@@ -163,6 +165,7 @@ pub fn fewest_way(steps: &Steps, way: &mut [u64]) -> u16
 {
     let k = steps.zero_rows();
     if k <= 16 {
+        // sixteen rows of the widest
         let mut sets = [0; 256];
         let _ = collect(steps, &mut sets);
         improve(way, k as usize, &sets, &None);
@@ -176,6 +179,7 @@ pub fn fewest_never(steps: &Steps, lit: &[u64], set: &mut [u64]) -> u16
     requires set { length set.old ≡ width_of steps.now.n }
     ensures { Within steps.now.n (bit_of lit.now) → Spare steps.now.n (cell steps.now.done.now (width_of steps.now.n)) → FewestNever steps.now.n (cell steps.now.done.now (width_of steps.now.n)) (column_of steps.now.pivots.now) (bit_of lit.now) set.old set.new result }
 {
+    // sixteen rows of the widest
     let mut sets = [0; 256];
     let k = collect_zero(steps, &mut sets);
     if k <= 16 {

@@ -2,14 +2,9 @@
 use Rattle.std.proofs.Common.{◌≡◌, ℕ, zero, suc, ◌+◌, ◌-◌, ◌*◌, Bool, true, false, cond, eqb, List, [], ◌∷◌, get_or, drop, MatchResult, IsOkAnd, IsErr, IsErrAnd, Ok, Err, codes, Result, sym, refl, ap, ◌∙◌, add-one}
 use mathlib.Core.Path.{fun_ext}
 use Rattle.std.proofs.lemmas.List.{drop-drop}
-use Rattle.lines.specs.Readers.{Reader, here, pair, found, ends, word, digit, longer, goes_on, digits, number, binary, bits}
+use Rattle.lines.specs.Readers.{Reader, here, found, ends, word, digit, longer, goes_on, digits, number, numbers, binary, bits, then}
 use Rattle.lines.proofs.Steps.{bits_next}
-use Rattle.lines.specs.Lines.{alone, one, two, set}
-
--- reading goes on, or stops
-abbrev pub then : {A B : Type 0} → Result A ℕ → (A → Result B ℕ) → Result B ℕ
-then (Ok x) k = k x
-then (Err p) k = Err p
+use Rattle.lines.specs.Lines.{alone, one, two, set, after}
 
 -- what `?` gives back where it stops
 pub stopped : {X : Type 0} (r : Result X ℕ) (p : ℕ) → IsErr r × IsErrAnd r (λ q. q ≡ p) → r ≡ Err p
@@ -34,7 +29,7 @@ then_then (Err p) k l = refl
 then_same : {A B : Type 0} (r : Result A ℕ) {k l : A → Result B ℕ} → ((x : A) → k x ≡ l x) → then r k ≡ then r l
 then_same r h = ap (then r) (fun_ext h)
 
-pub ends_then : {X : Type 0} (x : X) (p : ℕ) (bs : List ℕ) → ends x p bs ≡ then (ends (tt {0}) p bs) (λ _. Ok x)
+ends_then : {X : Type 0} (x : X) (p : ℕ) (bs : List ℕ) → ends x p bs ≡ then (ends (tt {0}) p bs) (λ _. Ok x)
 unfolding ends
 ends_then x p [] = refl
 ends_then x p (b ∷ bs) = refl
@@ -67,32 +62,38 @@ module _ {X : Type 0} (L : List ℕ) where
   unfolding number
   number_then K p bs e = rw (then_cond (digit (get_or bs 0 0)), digits_then K 0 p bs e)
 
-  -- the last number of a line
-  last : (f : ℕ → X) (p : ℕ) → number (λ n. ends (f n)) p (drop p L) ≡ then (number found p (drop p L)) (λ r. then (ends (tt {0}) r.1 (drop r.1 L)) (λ _. Ok (f r.0)))
-  last f p = number_then (λ n. ends (f n)) p (drop p L) refl ∙ then_same (number found p (drop p L)) (λ r. ends_then (f r.0) r.1 (drop r.1 L))
+  -- a keyword, what is read, and the end
+  forms : {A : Type 0} (w : List ℕ) (R : (A → Reader X) → Reader X) (read : ℕ → Result (A × ℕ) ℕ) (f : A → X)
+      → ((K : A → Reader X) (p : ℕ) → R K p (drop p L) ≡ then (read p) (λ r. K r.0 r.1 (drop r.1 L))) → word w (R (λ x. ends (f x))) 0 L ≡ then (after w read L) (λ x. Ok (f x))
+  forms w R read f h =
+      word_then w _ 0 L refl ∙ then_same (word w here 0 L) (λ q. h _ q ∙ then_same (read q) (λ r. ends_then (f r.0) r.1 (drop r.1 L))) ∙ sym (simp then_then)
 
-  pub alone_then : (w : List ℕ) (x : X) → alone w x 0 L ≡ then (word w here 0 L) (λ q. then (ends (tt {0}) q (drop q L)) (λ _. Ok x))
+  alone_then : (w : List ℕ) (x : X) → alone w x 0 L ≡ then (after w (λ p. Ok (tt {0}, p)) L) (λ _. Ok x)
   unfolding alone
-  alone_then w x = word_then w (ends x) 0 L refl ∙ then_same (word w here 0 L) (λ q. ends_then x q (drop q L))
+  alone_then w x = forms w (λ K. K tt) (λ p. Ok (tt {0}, p)) (λ _. x) (λ K p. refl)
 
-  pub one_then : (w : List ℕ) (f : ℕ → X) →
-      one w f 0 L ≡ then (word w here 0 L) (λ q. then (number found q (drop q L)) (λ r. then (ends (tt {0}) r.1 (drop r.1 L)) (λ _. Ok (f r.0))))
+  one_then : (w : List ℕ) (f : ℕ → X) → one w f 0 L ≡ then (after w (λ p. number found p (drop p L)) L) (λ n. Ok (f n))
   unfolding one
-  one_then w f = word_then w _ 0 L refl ∙ then_same (word w here 0 L) (last f)
+  one_then w f = forms w number (λ p. number found p (drop p L)) f (λ K p. number_then K p (drop p L) refl)
 
-  pub two_then : (w : List ℕ) (f : ℕ → ℕ → X) →
-      two w f 0 L ≡ then (word w here 0 L) (λ q. then (number found q (drop q L)) (λ r. then (word (codes " ") here r.1 (drop r.1 L))
-      (λ t. then (number found t (drop t L)) (λ s. then (ends (tt {0}) s.1 (drop s.1 L)) (λ _. Ok (f r.0 s.0))))))
-  unfolding two
-  two_then w f =
-      word_then w _ 0 L refl ∙ then_same (word w here 0 L) (λ q. number_then _ q (drop q L) refl ∙ then_same (number found q (drop q L))
-      (λ r. word_then (codes " ") _ r.1 (drop r.1 L) refl ∙ then_same (word (codes " ") here r.1 (drop r.1 L)) (λ t. last (f r.0) t)))
-
-  pub set_then : (n : ℕ) (w : List ℕ) (f : ℕ → X) →
-      set n w f 0 L ≡ then (word w here 0 L) (λ q. then (bits n found q (drop q L)) (λ r. then (ends (tt {0}) r.1 (drop r.1 L)) (λ _. Ok (f r.0))))
+  set_then : (n : ℕ) (w : List ℕ) (f : ℕ → X) → set n w f 0 L ≡ then (after w (λ p. bits n found p (drop p L)) L) (λ v. Ok (f v))
   unfolding set
-  set_then n w f =
-      word_then w _ 0 L refl ∙ then_same (word w here 0 L) (λ q. bits_then L n _ q (drop q L) refl ∙ then_same (bits n found q (drop q L)) (λ r. ends_then (f r.0) r.1 (drop r.1 L)))
+  set_then n w f = forms w (bits n) (λ p. bits n found p (drop p L)) f (λ K p. bits_then L n K p (drop p L) refl)
+
+  numbers_steps : (K : ℕ × ℕ → Reader X) (p : ℕ)
+      → numbers K p (drop p L) ≡ then (number found p (drop p L)) (λ r. then (word (codes " ") here r.1 (drop r.1 L)) (λ q. then (number found q (drop q L)) (λ s. K (r.0, s.0) s.1 (drop s.1 L))))
+  numbers_steps K p =
+      number_then _ p (drop p L) refl ∙ then_same (number found p (drop p L))
+      (λ r. word_then (codes " ") _ r.1 (drop r.1 L) refl ∙ then_same (word (codes " ") here r.1 (drop r.1 L)) (λ q. number_then _ q (drop q L) refl))
+
+pub numbers_then : (L : List ℕ) (p : ℕ)
+    → numbers found p (drop p L) ≡ then (number found p (drop p L)) (λ r. then (word (codes " ") here r.1 (drop r.1 L)) (λ q. then (number found q (drop q L)) (λ s. Ok ((r.0, s.0), s.1))))
+numbers_then L p = numbers_steps L found p
+
+two_then : {X : Type 0} (L w : List ℕ) (f : ℕ → ℕ → X) → two w f 0 L ≡ then (after w (λ p. numbers found p (drop p L)) L) (λ n. Ok (f n.0 n.1))
+unfolding two
+two_then L w f =
+    forms L w numbers (λ p. numbers found p (drop p L)) (λ n. f n.0 n.1) (λ K p. numbers_steps L K p ∙ sym (rw (numbers_then L p) (simp then_then)))
 
 -- what a form is read as, where a closure makes it of the numbers
 module _ {X : Type 0} (L w : List ℕ) (s : Result X ℕ) where
@@ -105,18 +106,18 @@ module _ {X : Type 0} (L w : List ℕ) (s : Result X ℕ) where
       made (Err p) h = absurd h
   mapped f (Err p) m makes = m
 
-  pub alone_read : {P : Unit {0} → X → Type 0} (x : X) (r : Result (Unit {0}) ℕ) → r ≡ alone w tt 0 L
+  pub alone_read : {P : Unit {0} → X → Type 0} (x : X) (r : Result (Unit {0}) ℕ) → r ≡ after w (λ p. Ok (tt {0}, p)) L
       → MatchResult r (λ u. IsOkAnd s (P u)) (λ p. s ≡ Err p) → ((u : Unit {0}) (y : X) → P u y → y ≡ x) → s ≡ alone w x 0 L
-  alone_read x r e m makes = mapped (λ _. x) r m makes ∙ sym (rw (e, alone_then L w x, alone_then L w (tt {0})) (simp then_then))
+  alone_read x r e m makes = mapped (λ _. x) r m makes ∙ sym (rw (e, alone_then L w x))
 
-  pub one_read : {P : ℕ → X → Type 0} (f : ℕ → X) (r : Result ℕ ℕ) → r ≡ one w (λ n. n) 0 L
+  pub one_read : {P : ℕ → X → Type 0} (f : ℕ → X) (r : Result ℕ ℕ) → r ≡ after w (λ p. number found p (drop p L)) L
       → MatchResult r (λ n. IsOkAnd s (P n)) (λ p. s ≡ Err p) → ((n : ℕ) (y : X) → P n y → y ≡ f n) → s ≡ one w f 0 L
-  one_read f r e m makes = mapped f r m makes ∙ sym (rw (e, one_then L w f, one_then L w (λ n. n)) (simp then_then))
+  one_read f r e m makes = mapped f r m makes ∙ sym (rw (e, one_then L w f))
 
-  pub two_read : {P : ℕ × ℕ → X → Type 0} (f : ℕ → ℕ → X) (r : Result (ℕ × ℕ) ℕ) → r ≡ two w pair 0 L
+  pub two_read : {P : ℕ × ℕ → X → Type 0} (f : ℕ → ℕ → X) (r : Result (ℕ × ℕ) ℕ) → r ≡ after w (λ p. numbers found p (drop p L)) L
       → MatchResult r (λ n. IsOkAnd s (P n)) (λ p. s ≡ Err p) → ((n : ℕ × ℕ) (y : X) → P n y → y ≡ f n.0 n.1) → s ≡ two w f 0 L
-  two_read f r e m makes = mapped (λ n. f n.0 n.1) r m makes ∙ sym (rw (e, two_then L w f, two_then L w pair) (simp then_then))
+  two_read f r e m makes = mapped (λ n. f n.0 n.1) r m makes ∙ sym (rw (e, two_then L w f))
 
-  pub set_read : {P : ℕ → X → Type 0} (n : ℕ) (f : ℕ → X) (r : Result ℕ ℕ) → r ≡ set n w (λ v. v) 0 L
+  pub set_read : {P : ℕ → X → Type 0} (n : ℕ) (f : ℕ → X) (r : Result ℕ ℕ) → r ≡ after w (λ p. bits n found p (drop p L)) L
       → MatchResult r (λ v. IsOkAnd s (P v)) (λ p. s ≡ Err p) → ((v : ℕ) (y : X) → P v y → y ≡ f v) → s ≡ set n w f 0 L
-  set_read n f r e m makes = mapped f r m makes ∙ sym (rw (e, set_then L n w f, set_then L n w (λ v. v)) (simp then_then))
+  set_read n f r e m makes = mapped f r m makes ∙ sym (rw (e, set_then L n w f))

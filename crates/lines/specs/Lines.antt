@@ -1,6 +1,6 @@
 -- The lines of a text: calls, and claims about a board. Assumes nothing: these are definitions.
-use Rattle.std.specs.Prelude.{ℕ, Bool, cond, ◌&&◌, ◌||◌, List, length, Ok, Err, codes, Result, ◌==◌, nat_lt, slice_index}
-use Rattle.lines.specs.Readers.{Reader, ends, word, number, bits, ◌or◌}
+use Rattle.std.specs.Prelude.{ℕ, Bool, cond, ◌&&◌, ◌||◌, List, length, drop, Ok, Err, codes, Result, ◌==◌, nat_lt, slice_index}
+use Rattle.lines.specs.Readers.{Reader, ends, word, number, bits, here, then, ◌or◌}
 use Rattle.calls.specs.declared.Call.TheVariants as calls
 use Rattle.lines.specs.declared.Line.{Line}
 use Rattle.lines.specs.declared.Line.TheVariants as line
@@ -26,6 +26,10 @@ two w f = word w (number (λ i. word (codes " ") (number (λ j. ends (f i j)))))
 
 unfoldable pub set : {X : Type 0} → ℕ → List ℕ → (ℕ → X) → Reader X
 set n w f = word w (bits n (λ v. ends (f v)))
+
+-- what `read` reads behind a keyword, up to the end of the line
+abbrev pub after : {X : Type 0} → List ℕ → (ℕ → Result (X × ℕ) ℕ) → List ℕ → Result X ℕ
+after w read bs = then (word w here 0 bs) (λ p. then (read p) (λ r. then (ends (tt {0}) r.1 (drop r.1 bs)) (λ _. Ok r.0)))
 
 -- a line of calls
 abbrev pub call : Reader Line

@@ -1,5 +1,5 @@
 -- How a line is read, byte by byte. Assumes nothing: these are definitions.
-use Rattle.std.specs.Prelude.{ℕ, zero, suc, ◌+◌, ◌-◌, ◌*◌, max, Bool, cond, ◌&&◌, ◌||◌, List, [], ◌∷◌, length, Some, None, Option, Ok, Err, Result, ◌==◌, nat_lt, slice_index}
+use Rattle.std.specs.Prelude.{ℕ, zero, suc, ◌+◌, ◌-◌, ◌*◌, max, Bool, cond, ◌&&◌, ◌||◌, List, [], ◌∷◌, length, Some, None, Option, Ok, Err, codes, Result, ◌==◌, nat_lt, slice_index}
 
 -- a reader takes the rest of a line, with the place where the rest begins: it gives what it reads, or the place of the first byte that doesn't fit.
 -- Most hand what follows on to another reader, K
@@ -39,6 +39,13 @@ digits K v p (b ∷ bs) = cond (goes_on v b) (digits K (longer v b) (suc p) bs) 
 unfoldable pub number : {X : Type 0} → (ℕ → Reader X) → Reader X
 number K p bs = cond (digit (slice_index bs 0)) (digits K 0 p bs) (Err p)
 
+-- two numbers, one space between them
+abbrev pub pair : ℕ → ℕ → ℕ × ℕ
+pair i j = (i, j)
+
+abbrev pub numbers : {X : Type 0} → (ℕ × ℕ → Reader X) → Reader X
+numbers K = number (λ i. word (codes " ") (number (λ j. K (pair i j))))
+
 -- a set of n lamps, as a number: a digit 0 or 1 for each, lamp 0 first and in the lowest bit
 abbrev pub binary : ℕ → Bool
 binary b = b == 48 || b == 49
@@ -62,11 +69,13 @@ abbrev pub ◌or◌ : {X : Type 0} → Reader X → Reader X → Reader X
 abbrev pub here : Reader ℕ
 here p bs = Ok p
 
-abbrev pub found : ℕ → Reader (ℕ × ℕ)
+abbrev pub found : {X : Type 0} → X → Reader (X × ℕ)
 found v p bs = Ok (v, p)
 
-abbrev pub pair : ℕ → ℕ → ℕ × ℕ
-pair i j = (i, j)
+-- reading goes on with what was read, or stops
+abbrev pub then : {A B : Type 0} → Result A ℕ → (A → Result B ℕ) → Result B ℕ
+then (Ok x) k = k x
+then (Err p) k = Err p
 
 -- byte b stands at place p
 abbrev pub has : List ℕ → ℕ → ℕ → Bool

@@ -1,11 +1,11 @@
 // The lines of a text, read from bytes: calls, and claims about a board.
 #![tactic(auto)]
 
-ghost use Rattle.std.specs.Prelude.{◌≡◌, ◌≤◌, Err, drop, slice_index};
+ghost use Rattle.std.specs.Prelude.{◌≡◌, ℕ, ◌≤◌, Ok, Err, Result, drop, slice_index};
 ghost use Rattle.std.specs.List.{fold};
-ghost use Rattle.lines.specs.Readers.{has as holds, here, pair, found, ends, word, number as numeral, next, binary, bits, further};
+ghost use Rattle.lines.specs.Readers.{has as holds, here, found, ends, word, number as numeral, numbers, next, binary, bits, further};
 ghost use Rattle.lines.specs.Laws.{OfLines, OfClaims};
-ghost use Rattle.lines.specs.Lines.{line_of, claim_of, says_nothing, serves, alone, one, two, set};
+ghost use Rattle.lines.specs.Lines.{line_of, claim_of, says_nothing, serves, after};
 
 use calls::Call;
 
@@ -95,37 +95,15 @@ fn end(line: &[u8], at: usize) -> Result<(), usize>
     if at < line.len() { Err(at) } else { Ok(()) }
 }
 
-// That the line is the keyword alone.
-#[tactic(auto, using(crate::proofs::Forms::alone_then, crate::proofs::Forms::ends_then, crate::proofs::Forms::stopped))]
-fn bare(line: &[u8], keyword: &[u8]) -> Result<(), usize>
-    ensures { result ≡ alone keyword.now tt 0 line.now }
+// The two numbers, one space between them, that stand at `at`, with the place after them; or the place of the first byte that doesn't fit.
+#[tactic(auto, using(crate::proofs::Forms::numbers_then, crate::proofs::Forms::stopped))]
+fn pair(line: &[u8], at: usize) -> Result<((u16, u16), usize), usize>
+    ensures { result ≡ numbers found at (drop at line.now) }
 {
-    let at = pass(line, 0, keyword)?;
-    end(line, at)
-}
-
-// The number of a line that is the keyword and a number.
-#[tactic(auto, using(crate::proofs::Forms::one_then, crate::proofs::Forms::stopped))]
-fn with_one(line: &[u8], keyword: &[u8]) -> Result<u16, usize>
-    ensures { result ≡ one keyword.now (λ n. n) 0 line.now }
-{
-    let at = pass(line, 0, keyword)?;
-    let (n, at) = number(line, at)?;
-    end(line, at)?;
-    Ok(n)
-}
-
-// The numbers of a line that is the keyword and two numbers.
-#[tactic(auto, using(crate::proofs::Forms::two_then, crate::proofs::Forms::stopped))]
-fn with_two(line: &[u8], keyword: &[u8]) -> Result<(u16, u16), usize>
-    ensures { result ≡ two keyword.now pair 0 line.now }
-{
-    let at = pass(line, 0, keyword)?;
     let (i, at) = number(line, at)?;
     let at = pass(line, at, b" ")?;
     let (j, at) = number(line, at)?;
-    end(line, at)?;
-    Ok((i, j))
+    Ok(((i, j), at))
 }
 
 // Whether the byte is a digit 0 or 1.
@@ -151,16 +129,19 @@ fn digits(line: &[u8], at: usize, n: u16) -> Result<(u64, usize), usize>
     Ok(((byte - b'0') as u64 + 2 * later, end))
 }
 
-// The set of a line that is the keyword and a digit for each of `n` lamps.
-#[tactic(auto, using(crate::proofs::Forms::set_then, crate::proofs::Forms::stopped))]
-fn with_set(line: &[u8], keyword: &[u8], n: u16) -> Result<u64, usize>
-    requires { n ≤ 64 }
-    ensures { result ≡ set n keyword.now (λ v. v) 0 line.now }
+// What the reading finds behind the keyword, where the line ends after it; or the place where the line leaves this form.
+fn after<X: Drop, R: FnOnce(&[u8], usize) -> Result<(X, usize), usize>>(
+    line: &[u8],
+    keyword: &[u8],
+    reading: R,
+) -> Result<X, usize>
+    requires { R.IsAlwaysCallable reading }
+    ensures { (read : ℕ → Result (X × ℕ) ℕ) → ((bs : _) (at : ℕ) (r : _) → bs.now ≡ line.now → R.post reading bs at r → r ≡ read at) → result ≡ after keyword.now read line.now }
 {
     let at = pass(line, 0, keyword)?;
-    let (lamps, at) = digits(line, at, n)?;
+    let (found, at) = reading(line, at)?;
     end(line, at)?;
-    Ok(lamps)
+    Ok(found)
 }
 
 // Whether the line is empty or begins with `#`.
@@ -200,18 +181,19 @@ pub fn read_line(line: &[u8]) -> Result<Line, usize>
         return Ok(Line::Nothing);
     }
     furthest(&[
-        with_one(line, b"lamps ").map(Line::Lamps),
-        with_two(line, b"grid ").map(|(w, h)| Line::Grid(w, h)),
-        with_two(line, b"wire ").map(|(i, j)| Line::Call(Call::Wire(i, j))),
-        with_one(line, b"turn ").map(|i| Line::Call(Call::Turn(i))),
-        with_one(line, b"press ").map(|i| Line::Call(Call::Press(i))),
-        bare(line, b"lit").map(|()| Line::Call(Call::Lit)),
-        bare(line, b"out").map(|()| Line::Call(Call::Out)),
-        bare(line, b"ways").map(|()| Line::Call(Call::Ways)),
+        after(line, b"lamps ", number).map(Line::Lamps),
+        after(line, b"grid ", pair).map(|(w, h)| Line::Grid(w, h)),
+        after(line, b"wire ", pair).map(|(i, j)| Line::Call(Call::Wire(i, j))),
+        after(line, b"turn ", number).map(|i| Line::Call(Call::Turn(i))),
+        after(line, b"press ", number).map(|i| Line::Call(Call::Press(i))),
+        after(line, b"lit", |_, at| Ok(((), at))).map(|()| Line::Call(Call::Lit)),
+        after(line, b"out", |_, at| Ok(((), at))).map(|()| Line::Call(Call::Out)),
+        after(line, b"ways", |_, at| Ok(((), at))).map(|()| Line::Call(Call::Ways)),
     ])
 }
 
-// What a line of a board of `n` lamps and of claims about it says, or the place where it can't be read on; where `n` is 0 there is no board yet.
+// What a line of a board of `n` lamps and of claims about it says, or the place where it can't be read on.
+// `n` counts lamps, as claim_of has it, so it is 0 where there is no board yet, and no Option.
 pub fn read_claim(line: &[u8], n: u16) -> Result<Claim, usize>
     ensures { result ≡ claim_of n line.now }
 {
@@ -219,17 +201,17 @@ pub fn read_claim(line: &[u8], n: u16) -> Result<Claim, usize>
         return Ok(Claim::Nothing);
     }
     let board = furthest(&[
-        with_one(line, b"lamps ").map(Claim::Lamps),
-        with_two(line, b"wire ").map(|(i, j)| Claim::Wire(i, j)),
-        with_one(line, b"turn ").map(Claim::Turn),
+        after(line, b"lamps ", number).map(Claim::Lamps),
+        after(line, b"wire ", pair).map(|(i, j)| Claim::Wire(i, j)),
+        after(line, b"turn ", number).map(Claim::Turn),
     ]);
     if !is_served(n) {
         return board;
     }
     furthest(&[
         board,
-        with_set(line, b"press ", n).map(Claim::Press),
-        with_set(line, b"never, by ", n).map(Claim::Never),
+        after(line, b"press ", |line, at| digits(line, at, n)).map(Claim::Press),
+        after(line, b"never, by ", |line, at| digits(line, at, n)).map(Claim::Never),
     ])
 }
 

@@ -38,9 +38,8 @@ pub fn press(board: Board, lit: &mut [u64], wires: &[u64], i: u16)
     ensures bits { (k : ℕ) → bit_of lit.new k ≡ differ (bit_of lit.old k) (cell wires.now (width_of board.lamps) i k) }
     ensures holds { (ws : List Wire) (s : Lamps) → HoldsWires board.lamps wires.now ws → HoldsLit board.lamps lit.old s → HoldsLit board.lamps lit.new (pressed ws s (slice_set (none_lit (length s)) i true)) }
 {
-    let width = board.width();
-    let start = i as usize * width;
-    bits::xor_into(lit, &wires[start..start + width]);
+    let row = matrix::row(wires, board.width(), i as usize);
+    bits::xor_into(lit, row);
 }
 
 // Presses each button whose bit is set in `presses`.

@@ -1,4 +1,5 @@
 // A matrix of bits in lent memory: rows of `width` words, one after another. A row is a part of the memory that starts in its middle.
+// Memory and width are two parameters: a struct of the two would be one for what is lent to be read and another for what is lent to be written.
 #![tactic(auto)]
 
 ghost use Rattle.std.specs.Prelude.{◌≡◌, ◌+◌, ◌*◌, ◌/◌, ◌<◌, ◌≤◌, length, ◌≢◌};

@@ -76,6 +76,7 @@ pub fn open(
         (λ board. (board.lamps ≡ lamps) × Opened (lent lamps wires.old rows.old done.old pivots.old lit.old marks.old) (lent lamps wires.new rows.new done.new pivots.new lit.new marks.new))
         (λ e. Unopened (lent lamps wires.old rows.old done.old pivots.old lit.old marks.old) (lent lamps wires.new rows.new done.new pivots.new lit.new marks.new) e) }
 {
+    // by `let .. else`: the form that docs/DECISIONS.md has for a check that returns the refusal
     let Some(board) = Board::new(lamps) else {
         return Err(Refusal::BadSize);
     };
@@ -162,6 +163,7 @@ pub fn call(
         lit,
         marks,
     };
+    // as many words as the widest row has: nothing here asks for memory
     let mut space = [0; 16];
     Ok(reply(&mut memory, bytes, &mut space[0..sizes.row], answer))
 }

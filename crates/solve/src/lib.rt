@@ -12,7 +12,8 @@ ghost use Rattle.solve.specs.Solved.{Within, Solved, Tells, Counts, zero_row};
 
 use echelon::Steps;
 
-// Writes presses that make what is lit and answers true; or writes the lamps that show that none do, and answers false.
+// Writes presses that make what is lit and answers true; or writes the lamps that show that none do, and answers false. Which of the two stands in `out` is all
+// that there is to say: a bool, and no enum with a row in it, since the row is lent.
 pub fn solve(steps: &Steps, lit: &[u64], out: &mut [u64]) -> bool
     requires lit { length lit.now ≡ width_of steps.now.n }
     requires out { length out.old ≡ width_of steps.now.n }
@@ -20,15 +21,14 @@ pub fn solve(steps: &Steps, lit: &[u64], out: &mut [u64]) -> bool
     ensures board { (ws : List Wire) (s : Lamps) (R : Rows) → length s ≡ steps.now.n → ((k : ℕ) → bit_of lit.now k ≡ at s k) → Spare steps.now.n (cell steps.now.done.now (width_of steps.now.n)) → Tracks steps.now.n (table ws) R (cell steps.now.done.now (width_of steps.now.n)) → Pivots steps.now.n R (column_of steps.now.pivots.now) → Tells steps.now.n ws s (bit_of out.new) result }
 {
     bits::zero(out);
-    for i in 0..steps.n {
-        let made = steps.made_with(i);
+    for (i, column) in steps.pivots.iter().enumerate() {
+        let made = steps.made_with(i as u16);
         if bits::parity_and(made, lit) {
-            let column = steps.pivots[i as usize];
-            if column >= steps.n {
+            if *column >= steps.n {
                 out.copy_from_slice(made);
                 return false;
             }
-            bits::flip(out, column);
+            bits::flip(out, *column);
         }
     }
     true

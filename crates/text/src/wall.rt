@@ -14,7 +14,7 @@ use desk::Memory;
 use lines::{Line, Refusal};
 use wires::Board;
 
-// The board that is open, if one is; what a desk keeps of it; and the lamps of the last answer.
+// The board that is open, if one is; what a desk keeps of it; and the lamps of the last answer. There is room for 64 lamps, so that none is asked for.
 #[derive(Drop)]
 pub struct Wall {
     board: Option<Board>,

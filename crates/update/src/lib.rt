@@ -18,12 +18,13 @@ pub fn choose(steps: &Steps, l: u16) -> Option<u16>
     ensures { Taking steps.now.n (width_of steps.now.n) steps.now.done.now (column_of steps.now.pivots.now) l steps.now.n result }
 {
     let mut chosen = None;
-    for i in 0..steps.n {
-        if steps.is_made_with(i, l) {
-            if steps.pivots[i as usize] >= steps.n {
-                return Some(i);
+    for (i, column) in steps.pivots.iter().enumerate() {
+        let k = i as u16;
+        if steps.is_made_with(k, l) {
+            if *column >= steps.n {
+                return Some(k);
             }
-            chosen = Some(i);
+            chosen = Some(k);
         }
     }
     chosen
@@ -112,7 +113,8 @@ fn set_first(row: &mut [u64], n: u16)
     }
 }
 
-// The steps of a system of zeros, with every row marked.
+// The steps of a system of zeros, with every row marked. Here and in `renew` the slices come one by one: of a struct of steps that is made from the fields of
+// another struct, that one would not learn what was written.
 pub fn start(rows: &mut [u64], done: &mut [u64], pivots: &mut [u16], marks: &mut [u64], n: u16)
     requires small { n ≤ 1024 }
     requires rows { length rows.old ≡ n * width_of n }

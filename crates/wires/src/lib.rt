@@ -1,4 +1,5 @@
 // Wires between lamps, as a row of bits for each lamp in lent memory: row `i` has bit `j` set if pressing `i` changes `j`.
+// A board and its rows are two parameters here, in lit and in claims: the rows are lent to be read by some and to be written by others. desk::Memory holds them together.
 #![tactic(auto)]
 
 ghost use Rattle.std.specs.Prelude.{◌≡◌, ◌*◌, ◌<◌, List, [], length, ◌≢◌};

@@ -13,17 +13,17 @@ returns-then-says_nothing c = rw (← c.if-says_nothing.ensures) (either_way _ _
 pub returns-then-not-is_served : goal.returns-then-not-is_served
 unfolding claim_of silent further
 returns-then-not-is_served c =
-    let lamps : c.map.result ≡ one (codes "lamps ") claim.Lamps 0 c.args.line.now = one_read _ _ _ claim.Lamps _ c.with_one.ensures c.map.ensures.cases (λ n y p. search rules) in
-    let wire : c.map-2.result ≡ two (codes "wire ") claim.Wire 0 c.args.line.now = two_read _ _ _ claim.Wire _ c.with_two.ensures c.map-2.ensures.cases (λ n y p. search rules) in
-    let turn : c.map-3.result ≡ one (codes "turn ") claim.Turn 0 c.args.line.now = one_read _ _ _ claim.Turn _ c.with_one-2.ensures c.map-3.ensures.cases (λ n y p. search rules) in
+    let lamps : c.map.result ≡ one (codes "lamps ") claim.Lamps 0 c.args.line.now = one_read _ _ _ claim.Lamps _ (c.after.ensures _ (λ bs at r same says. search rules)) c.map.ensures.cases (λ n y p. search rules) in
+    let wire : c.map-2.result ≡ two (codes "wire ") claim.Wire 0 c.args.line.now = two_read _ _ _ claim.Wire _ (c.after-2.ensures _ (λ bs at r same says. search rules)) c.map-2.ensures.cases (λ n y p. search rules) in
+    let turn : c.map-3.result ≡ one (codes "turn ") claim.Turn 0 c.args.line.now = one_read _ _ _ claim.Turn _ (c.after-3.ensures _ (λ bs at r same says. search rules)) c.map-3.ensures.cases (λ n y p. search rules) in
     rw (← c.if-says_nothing.ensures, ← c.if-not-is_served.ensures, ← lamps, ← wire, ← turn) c.furthest-board.ensures
 
 pub returns : goal.returns
 unfolding claim_of silent further
 returns c =
-    let lamps : c.map.result ≡ one (codes "lamps ") claim.Lamps 0 c.args.line.now = one_read _ _ _ claim.Lamps _ c.with_one.ensures c.map.ensures.cases (λ n y p. search rules) in
-    let wire : c.map-2.result ≡ two (codes "wire ") claim.Wire 0 c.args.line.now = two_read _ _ _ claim.Wire _ c.with_two.ensures c.map-2.ensures.cases (λ n y p. search rules) in
-    let turn : c.map-3.result ≡ one (codes "turn ") claim.Turn 0 c.args.line.now = one_read _ _ _ claim.Turn _ c.with_one-2.ensures c.map-3.ensures.cases (λ n y p. search rules) in
-    let press : c.map-4.result ≡ set c.args.n (codes "press ") claim.Press 0 c.args.line.now = set_read _ _ _ c.args.n claim.Press _ c.with_set.ensures c.map-4.ensures.cases (λ n y p. search rules) in
-    let never : c.map-5.result ≡ set c.args.n (codes "never, by ") claim.Never 0 c.args.line.now = set_read _ _ _ c.args.n claim.Never _ c.with_set-2.ensures c.map-5.ensures.cases (λ n y p. search rules) in
+    let lamps : c.map.result ≡ one (codes "lamps ") claim.Lamps 0 c.args.line.now = one_read _ _ _ claim.Lamps _ (c.after.ensures _ (λ bs at r same says. search rules)) c.map.ensures.cases (λ n y p. search rules) in
+    let wire : c.map-2.result ≡ two (codes "wire ") claim.Wire 0 c.args.line.now = two_read _ _ _ claim.Wire _ (c.after-2.ensures _ (λ bs at r same says. search rules)) c.map-2.ensures.cases (λ n y p. search rules) in
+    let turn : c.map-3.result ≡ one (codes "turn ") claim.Turn 0 c.args.line.now = one_read _ _ _ claim.Turn _ (c.after-3.ensures _ (λ bs at r same says. search rules)) c.map-3.ensures.cases (λ n y p. search rules) in
+    let press : c.map-4.result ≡ set c.args.n (codes "press ") claim.Press 0 c.args.line.now = set_read _ _ _ c.args.n claim.Press _ (c.after-4.ensures _ (λ bs at r same says. search rules)) c.map-4.ensures.cases (λ n y p. search rules) in
+    let never : c.map-5.result ≡ set c.args.n (codes "never, by ") claim.Never 0 c.args.line.now = set_read _ _ _ c.args.n claim.Never _ (c.after-5.ensures _ (λ bs at r same says. search rules)) c.map-5.ensures.cases (λ n y p. search rules) in
     rw (← c.if-says_nothing.ensures, ← c.if-not-is_served.ensures, ← lamps, ← wire, ← turn, ← press, ← never, ← c.furthest-board.ensures, ← furthest_none c.furthest-board.result) c.furthest.ensures

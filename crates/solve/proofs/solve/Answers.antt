@@ -25,11 +25,11 @@ returns-then-column-steps c =
     let width = width_of s.n in
     let done = cell s.done.now width in
     let odd = odd_row s.done.now _ c.args.lit.now width c.loop-i.i c.made_with-made.ensures
-    (ap length c.made_with-made.ensures ∙ length_row _ width _ (done_row s c.loop-i.i c.loop-i-test.true)) in
+    (ap length c.made_with-made.ensures ∙ length_row _ width _ (done_row s c.loop-i.i (omega arith))) in
     let system : Within s.n (bit_of c.args.lit.now) → Spare s.n done
     → Solved s.n done (column_of s.pivots.now) (bit_of c.args.lit.now) (bit_of c.copy_from_slice.new.self) false =
     λ lit spare. never_found s.n (64 * width) done (column_of s.pivots.now) (bit_of c.args.lit.now) _ (omega arith) lit
-    c.loop-i.i c.loop-i-test.true c.if-column-steps.true (c.if-parity_and.ensures ∙ odd) spare
+    c.loop-i.i (omega arith) c.if-column-steps.true (c.if-parity_and.ensures ∙ odd) spare
     (λ j. ap (λ ws. bit_of ws j) (c.copy_from_slice.ensures.after ∙ c.made_with-made.ensures)) in
     record { system = system; board = λ ws t R e same spare tr pv. solved_tells _ ws R done _ tr pv t _ _ _ e same (system (lit_within _ t _ e same) spare) }
 
@@ -42,7 +42,7 @@ loop-i-preserved c =
     × (length out ≡ width) in
     let inv = c.loop-i.invariant in
     let odd = odd_row s.done.now _ c.args.lit.now width c.loop-i.i c.made_with-made.ensures
-    (ap length c.made_with-made.ensures ∙ length_row _ width _ (done_row s c.loop-i.i c.loop-i-test.true)) in
+    (ap length c.made_with-made.ensures ∙ length_row _ width _ (done_row s c.loop-i.i (omega arith))) in
     elim c.if-parity_and.branch [
       | then-parity_and+else-column-steps w ↦ subst Next (sym w.out-is)
           (placing_odd _ _ _ _ _ inv.0 _ (w.if-parity_and.ensures ∙ odd) w.if-column-steps.false w.flip.ensures, w.flip.auto.row ∙ inv.1)
