@@ -19,7 +19,7 @@ const BLOCK: u16 = 6;
 const TABLE: usize = 1024;
 
 // The rows from `first` to `end`.
-#[derive(Clone, Copy)]
+#[derive(Clone, Copy, PartialEq, Eq, Debug)]
 struct Block {
     first: u16,
     end: u16,
@@ -40,7 +40,7 @@ fn next_row(steps: &Steps, from: u16) -> Option<u16>
 {
     let width = steps.width();
     let mut found = None;
-    // nested loops left by a label, as the list of forms in docs/DECISIONS.md has it
+    // nested loops left by a label: a rule of this project, among the forms in docs/DECISIONS.md
     'rows: for i in from..steps.n {
         for word in matrix::row(steps.rows, width, i as usize) {
             if *word != 0 {

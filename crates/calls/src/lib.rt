@@ -43,6 +43,7 @@ pub enum Answer {
 }
 
 impl Refusal {
+    // The number by which other languages and texts know it.
     pub fn number(self) -> u8
         ensures { result ≡ number_of self }
     {
@@ -54,6 +55,7 @@ impl Refusal {
         }
     }
 
+    // The place that it names.
     pub fn place(self) -> u16
         ensures { result ≡ place_of self }
     {

@@ -35,7 +35,7 @@ impl Checker {
         Checker { board: None }
     }
 
-    // How many lamps there are, 0 where there is no board yet.
+    // How many lamps there are, 0 where there is no board yet: a count, as lines are read by it.
     fn lamps(&self) -> u16
         ensures { result ≡ lamps_held self.now.board }
     {

@@ -50,6 +50,7 @@ impl SmallBoard {
         Ok(SmallBoard { board, wires, lit })
     }
 
+    // How many lamps it has.
     pub fn lamps(&self) -> u16
         ensures { result ≡ self.now.board.lamps }
     {

@@ -6,7 +6,7 @@ ghost use Rattle.bits.specs.Bits.{bit_of};
 ghost use Rattle.desk.specs.Holding.{answer_of};
 ghost use Rattle.desk.specs.Rewired.{TwoRowsChange};
 
-pub mod memory;
+mod memory;
 
 use calls::{Answer, Refusal};
 pub use memory::Memory;

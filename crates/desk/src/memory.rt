@@ -44,7 +44,7 @@ impl<'a> Memory<'a> {
         update::start(self.rows, self.done, self.pivots, self.marks, board.lamps);
     }
 
-    // In these three each check hands on its value or returns the refusal by `let .. else`, and not by `?`: the form that docs/DECISIONS.md has for this place.
+    // In these three each check hands on its value or returns the refusal by `let .. else`, and not by `?`: a rule of this project, among the forms in docs/DECISIONS.md.
 
     // The wire between two lamps comes, or goes if it is there, and its two rows are marked. Answers the first lamp.
     fn wire(&mut self, i: u16, j: u16) -> Result<u16, Refusal>
@@ -171,7 +171,7 @@ impl<'a> Memory<'a> {
         }
     }
 
-    // Performs a call. Lamps that are answered are written into `row`.
+    // Performs a call. Lamps that are answered are written into `row`, which is lent for that answer alone, and so is no field.
     pub fn perform(&mut self, call: Call, row: &mut [u64]) -> Answer
         requires { length row.old ≡ width_of self.old.board.lamps }
         ensures performs { (b : Wall) → Holds (held self.old) b → Performs (held self.old) (held self.new) b (meant call) (said result row.new) }

@@ -3,7 +3,7 @@
 
 ghost use Rattle.echelon.specs.Laws.{SameQuiet};
 
-pub mod steps;
+mod steps;
 
 pub use steps::Steps;
 

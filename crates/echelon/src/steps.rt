@@ -5,7 +5,7 @@ ghost use Rattle.matrix.specs.Cells.{width_of, row_of, cell};
 ghost use Rattle.matrix.specs.Said.{RowAdded};
 
 // The `n` rows of a system in reduced steps: the rows, of which rows of the system each is the sum, and the column that each owns, or `n` where it is zero.
-// Numbers and slices, as the memory is lent by other languages.
+// No row is told by the number `n` and not by an Option, since other languages lend the memory.
 #[derive(Drop)]
 pub struct Steps<'a> {
     pub n: u16,
@@ -88,6 +88,7 @@ impl<'a> Steps<'a> {
     {
         for m in 0..self.n {
             if m != k {
+                // by its number: while rows are added the pivots can't be lent
                 let column = self.pivots[m as usize];
                 if column < self.n && self.has(k, column) {
                     self.add_row(k, m);

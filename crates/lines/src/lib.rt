@@ -54,7 +54,7 @@ fn pass(line: &[u8], at: usize, keyword: &[u8]) -> Result<usize, usize>
     Ok(at + keyword.len())
 }
 
-// The byte at a place of the line, or 0 past its end.
+// The byte at a place of the line, or 0 past its end, which is no digit: so the definitions read it.
 fn byte_at(line: &[u8], at: usize) -> u8
     ensures { result ≡ slice_index line.now at }
 {

@@ -14,6 +14,7 @@ pub enum Refusal {
 }
 
 impl Refusal {
+    // The number by which it is printed.
     pub fn number(self) -> u8
         ensures { result ≡ number_of self }
     {
@@ -23,6 +24,7 @@ impl Refusal {
         }
     }
 
+    // The place that it names: 0, but where the line can't be read on.
     pub fn place(self) -> usize
         ensures { result ≡ place_of self }
     {

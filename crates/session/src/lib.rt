@@ -62,7 +62,8 @@ fn long(
         && marks.len() >= sizes.row
 }
 
-// Opens a board of `lamps` lamps in the lent memory: six slices, as they come from other languages.
+// Opens a board of `lamps` lamps in the lent memory: six slices, as they come from other languages. The parts that are asked for are cut off here and in `call`
+// alike: the borrow checker doesn't cover a function that would hand out the six together.
 pub fn open(
     lamps: u16,
     wires: &mut [u64],
@@ -76,7 +77,7 @@ pub fn open(
         (λ board. (board.lamps ≡ lamps) × Opened (lent lamps wires.old rows.old done.old pivots.old lit.old marks.old) (lent lamps wires.new rows.new done.new pivots.new lit.new marks.new))
         (λ e. Unopened (lent lamps wires.old rows.old done.old pivots.old lit.old marks.old) (lent lamps wires.new rows.new done.new pivots.new lit.new marks.new) e) }
 {
-    // by `let .. else`: the form that docs/DECISIONS.md has for a check that returns the refusal
+    // by `let .. else`: a rule of this project, among the forms in docs/DECISIONS.md
     let Some(board) = Board::new(lamps) else {
         return Err(Refusal::BadSize);
     };

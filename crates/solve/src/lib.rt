@@ -13,7 +13,8 @@ ghost use Rattle.solve.specs.Solved.{Within, Solved, Tells, Counts, zero_row};
 use echelon::Steps;
 
 // Writes presses that make what is lit and answers true; or writes the lamps that show that none do, and answers false. Which of the two stands in `out` is all
-// that there is to say: a bool, and no enum with a row in it, since the row is lent.
+// that there is to say: a bool, and no enum: of one with a row in it
+// the row would be lent, and one without would say what the bool says, which the definitions take.
 pub fn solve(steps: &Steps, lit: &[u64], out: &mut [u64]) -> bool
     requires lit { length lit.now ≡ width_of steps.now.n }
     requires out { length out.old ≡ width_of steps.now.n }

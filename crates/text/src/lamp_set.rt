@@ -6,8 +6,8 @@ ghost use Rattle.lines.specs.Printed.{shown};
 
 use std::fmt;
 
-// Of the first `count` lamps, at most 64, those whose bit is set in the row.
-#[derive(Clone, Copy)]
+// Of the first `count` lamps, at most 64, those whose bit is set in the row: a value that a reply has in it, where crate calls lends a row to write its bytes.
+#[derive(Clone, Copy, PartialEq, Eq, Debug)]
 pub struct LampSet {
     pub count: u16,
     pub row: [u64; 1],

@@ -12,7 +12,7 @@ mod lamp_set;
 mod reply;
 mod wall;
 
-// The answers to the lines of a text.
+// The answers to the lines of a text. checker::verdicts is like it, but for who answers a line and what is promised of it: a generic form of the two would be longer.
 pub fn answers(heap: Global, text: &[u8]) -> Result<String, AllocError>
     ensures { IfOk result (λ s. Answered text.now (string_bytes s)) }
 {

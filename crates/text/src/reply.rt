@@ -9,7 +9,7 @@ use lines::Refusal;
 use std::fmt;
 
 // Nothing, a refusal, or that a board of so many lamps is open; to a call its lamp, in how many ways everything goes out, or lamps.
-#[derive(Clone, Copy)]
+#[derive(Clone, Copy, PartialEq, Eq, Debug)]
 pub enum Reply {
     Nothing,
     Refused(Refusal),
@@ -54,7 +54,7 @@ fn number(call: Call, k: u16) -> Reply
     }
 }
 
-// The reply to a call that is answered so.
+// The reply to a call: what its answer says.
 pub fn tell(call: Call, answer: Answer, row: [u64; 1]) -> Reply
     requires { lamps_of answer ≤ 64 }
     ensures { line_for result ≡ told (meant call) (said answer row) }

@@ -83,7 +83,7 @@ impl Wall {
         }
     }
 
-    // How many lamps there are, 0 where no board is open.
+    // How many lamps there are, 0 where no board is open: a count, as the definitions take it.
     fn lamps(&self) -> u16
         ensures { result ≡ lamps_open self.now.board }
     {

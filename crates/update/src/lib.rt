@@ -30,7 +30,8 @@ pub fn choose(steps: &Steps, l: u16) -> Option<u16>
     chosen
 }
 
-// Adds row `k` to each other row that was made with row `l`.
+// Adds row `k` to each other row that was made with row `l`. It is like Steps::clear_column, but for the table that is looked at: each has a definition of its own,
+// and one function of both would have to promise by a test of rows that change.
 pub fn free(steps: &mut Steps, k: u16, l: u16)
     requires within { k < steps.old.n }
     requires lamp { l < steps.old.n }
