@@ -34,6 +34,7 @@ pub fn xor_into(to: &mut [u64], from: &[u64])
     requires { length to.old ≡ length from.now }
     ensures { Added to.new to.old from.now }
 {
+    // the other row by its place: of what is written in step with it, by `zip`, the proof knows nothing afterwards
     for (i, word) in to.iter_mut().enumerate() {
         *word ^= from[i];
     }
@@ -57,6 +58,7 @@ pub fn parity_and(a: &[u64], b: &[u64]) -> bool
     ensures { result ≡ dot (64 * length a.now) (bit_of a.now) (bit_of b.now) }
 {
     let mut sum = 0;
+    // by its place, as in xor_into
     for (i, word) in a.iter().enumerate() {
         sum ^= *word & b[i];
     }

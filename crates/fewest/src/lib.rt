@@ -61,6 +61,7 @@ fn collect_by<C: Fn(u16) -> bool, W: Fn(u16, &mut [u64])>(
                 let start = k as usize * width;
                 write(i, &mut sets[start..start + width]);
             }
+            // all are counted, and the first sixteen written
             k += 1;
         }
     }
