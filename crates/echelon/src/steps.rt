@@ -156,12 +156,9 @@ impl<'a> Steps<'a> {
     pub fn zero_rows(&self) -> u16
         ensures { ZeroRows self.now.n (column_of self.now.pivots.now) result }
     {
-        let mut zero = 0;
-        for column in self.pivots.iter() {
-            if *column >= self.n {
-                zero += 1;
-            }
-        }
-        zero
+        self.pivots
+            .iter()
+            .filter(|column| **column >= self.n)
+            .count() as u16
     }
 }
