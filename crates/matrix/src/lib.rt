@@ -13,7 +13,7 @@ ghost use Rattle.matrix.specs.Said.{RowPut, RowAdded, Flipped, Identity};
 pub fn width(n: u16) -> usize
     ensures { result ≡ width_of n }
 {
-    (n as usize + 63) / 64
+    (n as usize).div_ceil(64)
 }
 
 // Row `i`.

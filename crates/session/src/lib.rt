@@ -36,7 +36,7 @@ pub fn asked(board: Board) -> Sizes
         table: lamps * row,
         pivots: lamps,
         row,
-        answer: (lamps + 7) / 8 + 16,
+        answer: lamps.div_ceil(8) + 16,
     }
 }
 
