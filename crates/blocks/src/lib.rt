@@ -18,7 +18,7 @@ const BLOCK: u16 = 6;
 // How many words a table has: a row of at most 16 for each of the 64 choices of a block's rows.
 const TABLE: usize = 1024;
 
-// The rows from `first` to `end`.
+// The rows from `first` to `end`. That a system has so many is asked where one comes with them: the block knows none.
 #[derive(Clone, Copy, PartialEq, Eq, Debug)]
 struct Block {
     first: u16,

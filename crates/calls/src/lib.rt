@@ -142,7 +142,7 @@ pub fn write_call(call: Call, out: &mut [u8]) -> Option<usize>
     }
 }
 
-// Lamps as the first bits of a row.
+// Lamps as the first bits of a row. It is made to be written, and compared with nothing.
 #[derive(Clone, Copy)]
 struct LampRow<'a> {
     count: u16,

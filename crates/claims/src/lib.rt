@@ -1,4 +1,4 @@
-// Claims about a board are checked by doing what they say, without any solver.
+// Claims about a board are checked by doing what they say, without any solver. A board and its rows are two parameters, as in wires.
 #![tactic(auto)]
 
 ghost use Rattle.std.specs.Prelude.{◌≡◌, ◌*◌, List, length};

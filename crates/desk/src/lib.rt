@@ -30,7 +30,7 @@ fn other(i: u16, j: u16) -> Result<u16, Refusal>
     if i == j { Err(Refusal::Itself) } else { Ok(j) }
 }
 
-// Marks row `i` as changed.
+// Marks row `i` as changed. fewest marks columns so too, in a loop and with another promise.
 fn mark(marks: &mut [u64], i: u16)
     requires { i / 64 < length marks.old }
     ensures { (k : ℕ) → bit_of marks.new k ≡ (bit_of marks.old k || k == i) }

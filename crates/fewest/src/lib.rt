@@ -111,7 +111,7 @@ fn accepted(row: &[u64], against: &Option<&[u64]>) -> bool
 }
 
 // Goes through the sums of `current` with some of the first `k` sets, and keeps the least that may be taken in `best`, of `best_count` bits.
-// `against` is lent: a copy of it for each call takes a third of the time again.
+// The sets come beside their number, which is one less at each call. `against` is lent: a copy of it for each call takes a third of the time again.
 pub fn least(
     k: usize,
     current: &mut [u64],

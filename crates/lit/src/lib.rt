@@ -1,4 +1,4 @@
-// What is lit, as a row of bits in lent memory: a lamp is turned, buttons are pressed.
+// What is lit, as a row of bits in lent memory: a lamp is turned, buttons are pressed. A board and its rows are two parameters, as in wires.
 #![tactic(auto)]
 
 ghost use Rattle.std.specs.Prelude.{◌≡◌, ℕ, ◌*◌, ◌<◌, true, false, not, List, length, ◌==◌, slice_set};
