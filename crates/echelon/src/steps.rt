@@ -75,8 +75,7 @@ impl<'a> Steps<'a> {
         ensures place { InPlace self.old self.new }
     {
         let width = self.width();
-        matrix::add_row(self.rows, width, to as usize, from as usize);
-        matrix::add_row(self.done, width, to as usize, from as usize);
+        crate::add_row(self.rows, self.done, width, to as usize, from as usize);
     }
 
     // Adds to row `k` each other row whose pivot column is set in it.
@@ -107,11 +106,16 @@ impl<'a> Steps<'a> {
         ensures pivots { self.new.pivots.now ≡ self.old.pivots.now }
         ensures place { InPlace self.old self.new }
     {
-        for m in from..to {
-            if m != k && self.has(m, j) {
-                self.add_row(m, k);
-            }
-        }
+        let width = self.width();
+        crate::clear_column(
+            self.rows,
+            self.done,
+            width,
+            from as usize,
+            to as usize,
+            k as usize,
+            j,
+        );
     }
 
     // Row `k` takes its first bit as its pivot, which is cleared from each other row from `from` to `to`, or is zero.
@@ -149,16 +153,13 @@ impl<'a> Steps<'a> {
         ensures done { self.new.done.now ≡ self.old.done.now }
         ensures place { InPlace self.old self.new }
     {
-        self.pivots.fill(self.n);
+        crate::no_pivots(self.pivots, self.n);
     }
 
     // How many rows have no pivot: as many are zero, and as many columns are free.
     pub fn zero_rows(&self) -> u16
         ensures { ZeroRows self.now.n (column_of self.now.pivots.now) result }
     {
-        self.pivots
-            .iter()
-            .filter(|column| **column >= self.n)
-            .count() as u16
+        crate::zero_rows(self.pivots, self.n)
     }
 }
