@@ -165,7 +165,7 @@ impl<'a> Memory<'a> {
             pivots: self.pivots,
         };
         if solve::solve(&steps, lit, &mut space[0..width]) {
-            solve::zero_rows(&steps) + 1
+            solve::zero_rows(steps.pivots, steps.n) + 1
         } else {
             0
         }

@@ -36,9 +36,11 @@ pub fn solve(steps: &Steps, lit: &[u64], out: &mut [u64]) -> bool
 }
 
 // How many rows are zero: as many as there are columns without a pivot, and two to that many ways, if there is one.
-pub fn zero_rows(steps: &Steps) -> u16
-    ensures rows { result ≡ tally (zero_row steps.now.n (column_of steps.now.pivots.now)) steps.now.n }
-    ensures board { (ws : List Wire) (R T : Rows) → Tracks steps.now.n (table ws) R T → Pivots steps.now.n R (column_of steps.now.pivots.now) → Counts steps.now.n ws result }
+// It is given pivots and not `Steps`: it holds of any number of them.
+pub fn zero_rows(pivots: &[u16], n: u16) -> u16
+    requires { length pivots.now ≡ n }
+    ensures rows { result ≡ tally (zero_row n (column_of pivots.now)) n }
+    ensures board { (ws : List Wire) (R T : Rows) → Tracks n (table ws) R T → Pivots n R (column_of pivots.now) → Counts n ws result }
 {
-    steps.zero_rows()
+    echelon::zero_rows(pivots, n)
 }
