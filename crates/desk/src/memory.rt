@@ -157,15 +157,17 @@ impl<'a> Memory<'a> {
         // as many words as the widest row has: nothing here asks for memory
         let mut space = [0; 16];
         let width = self.board.width();
+        let n = self.board.lamps;
         let lit = &mut *self.lit;
         let steps = Steps {
-            n: self.board.lamps,
+            n,
             rows: self.rows,
             done: self.done,
             pivots: self.pivots,
         };
         if solve::solve(&steps, lit, &mut space[0..width]) {
-            solve::zero_rows(steps.pivots, steps.n) + 1
+            let pivots = &mut *self.pivots;
+            solve::zero_rows(pivots, n) + 1
         } else {
             0
         }
