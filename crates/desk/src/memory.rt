@@ -6,7 +6,6 @@ ghost use Rattle.calls.specs.Saying.{lamps_of, meant, said};
 
 use crate::{lamp, mark, numbered, other};
 use calls::{Answer, Call, Refusal};
-use echelon::Steps;
 use wires::Board;
 
 // The wires of a board, steps of them but for the marked rows, and what is lit.
@@ -130,20 +129,18 @@ impl<'a> Memory<'a> {
         self.renew();
         let n = self.board.lamps;
         let lit = &mut *self.lit;
-        let steps = Steps {
-            n,
-            rows: self.rows,
-            done: self.done,
-            pivots: self.pivots,
-        };
-        if solve::solve(&steps, lit, row) {
-            if fewest::fewest_way(&steps, row) <= 16 {
+        let rows = &mut *self.rows;
+        let done = &mut *self.done;
+        let pivots = &mut *self.pivots;
+        if solve::solve(done, pivots, n, lit, row) {
+            let free = fewest::fewest_way(rows, pivots, n, row);
+            if free <= 16 {
                 Answer::Fewest(n)
             } else {
                 Answer::SomeWay(n)
             }
         } else {
-            let _ = fewest::fewest_never(&steps, lit, row);
+            let _ = fewest::fewest_never(done, pivots, n, lit, row);
             Answer::Never(n)
         }
     }
@@ -159,14 +156,9 @@ impl<'a> Memory<'a> {
         let width = self.board.width();
         let n = self.board.lamps;
         let lit = &mut *self.lit;
-        let steps = Steps {
-            n,
-            rows: self.rows,
-            done: self.done,
-            pivots: self.pivots,
-        };
-        if solve::solve(&steps, lit, &mut space[0..width]) {
-            let pivots = &mut *self.pivots;
+        let done = &mut *self.done;
+        let pivots = &mut *self.pivots;
+        if solve::solve(done, pivots, n, lit, &mut space[0..width]) {
             solve::zero_rows(pivots, n) + 1
         } else {
             0

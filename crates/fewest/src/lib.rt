@@ -11,31 +11,34 @@ ghost use Rattle.matrix.specs.Cells.{width_of, cell, Spare};
 ghost use Rattle.echelon.specs.Steps.{column_of};
 ghost use Rattle.fewest.specs.Sets.{taken, free, QuietSet, Copied, Written, Collected, Spans, OneChoice, Least, may_take, FewestWay, FewestNever};
 
-use echelon::Steps;
-
 // Writes the quiet set of the free column `f`: bit `f`, and the pivot of each row that has bit `f`.
-pub fn quiet_set(steps: &Steps, f: u16, out: &mut [u64])
-    requires column { f < steps.now.n }
-    requires out { length out.old ≡ width_of steps.now.n }
-    ensures { QuietSet steps.now.n (cell steps.now.rows.now (width_of steps.now.n)) (column_of steps.now.pivots.now) f (bit_of out.new) }
+// Slices and not `Steps`: the public functions here read two of its three, and are lent those alone.
+pub fn quiet_set(rows: &[u64], pivots: &[u16], n: u16, f: u16, out: &mut [u64])
+    requires small { n ≤ 1024 }
+    requires rows { length rows.now ≡ n * width_of n }
+    requires pivots { length pivots.now ≡ n }
+    requires column { f < n }
+    requires out { length out.old ≡ width_of n }
+    ensures { QuietSet n (cell rows.now (width_of n)) (column_of pivots.now) f (bit_of out.new) }
 {
+    let width = matrix::width(n);
     bits::zero(out);
     bits::flip(out, f);
-    for (i, column) in steps.pivots.iter().enumerate() {
-        if *column < steps.n && steps.has(i as u16, f) {
+    for (i, column) in pivots.iter().enumerate() {
+        if *column < n && matrix::has(rows, width, i, f) {
             bits::flip(out, *column);
         }
     }
 }
 
 // Sets the bit of each column that is some row's pivot, and no other.
-fn mark_pivots(steps: &Steps, columns: &mut [u64])
-    requires { steps.now.n ≤ 64 * length columns.old }
-    ensures { (j : ℕ) → j < steps.now.n → bit_of columns.new j ≡ taken steps.now.n (column_of steps.now.pivots.now) j }
+fn mark_pivots(pivots: &[u16], n: u16, columns: &mut [u64])
+    requires { n ≤ 64 * length columns.old }
+    ensures { (j : ℕ) → j < n → bit_of columns.new j ≡ taken (length pivots.now) (column_of pivots.now) j }
 {
     bits::zero(columns);
-    for column in steps.pivots.iter() {
-        if *column < steps.n && !bits::get(columns, *column) {
+    for column in pivots {
+        if *column < n && !bits::get(columns, *column) {
             bits::flip(columns, *column);
         }
     }
@@ -43,19 +46,19 @@ fn mark_pivots(steps: &Steps, columns: &mut [u64])
 
 // How many of the columns, or of the rows, count; a row for each of the first sixteen is written into `sets`, one after another.
 fn collect_by<C: Fn(u16) -> bool, W: Fn(u16, &mut [u64])>(
-    steps: &Steps,
+    n: u16,
     counts: C,
     write: W,
     sets: &mut [u64],
 ) -> u16
-    requires sets { 16 * width_of steps.now.n ≤ length sets.old }
-    requires counts { (i : ℕ) → i < steps.now.n → C.pre counts i }
-    requires writes { (i : ℕ) (row : _) → i < steps.now.n → length row.now ≡ width_of steps.now.n → W.pre write i row }
-    ensures { (g : ℕ → Bool) → ((i : ℕ) (b : Bool) → i < steps.now.n → C.post counts i b → b ≡ g i) → Collected g (Written (width_of steps.now.n) (λ i row row'. W.post write i row tt row')) steps.now.n result (cell sets.new (width_of steps.now.n)) }
+    requires sets { 16 * width_of n ≤ length sets.old }
+    requires counts { (i : ℕ) → i < n → C.pre counts i }
+    requires writes { (i : ℕ) (row : _) → i < n → length row.now ≡ width_of n → W.pre write i row }
+    ensures { (g : ℕ → Bool) → ((i : ℕ) (b : Bool) → i < n → C.post counts i b → b ≡ g i) → Collected g (Written (width_of n) (λ i row row'. W.post write i row tt row')) n result (cell sets.new (width_of n)) }
 {
-    let width = steps.width();
+    let width = matrix::width(n);
     let mut k = 0;
-    for i in 0..steps.n {
+    for i in 0..n {
         if counts(i) {
             if k < 16 {
                 let start = k as usize * width;
@@ -70,31 +73,38 @@ fn collect_by<C: Fn(u16) -> bool, W: Fn(u16, &mut [u64])>(
 
 // How many columns are free; the quiet sets of the first sixteen are written into `sets`, one after another. If there are no more,
 // every set of presses that does nothing is the sum of one choice of them, and of no other.
-pub fn collect(steps: &Steps, sets: &mut [u64]) -> u16
-    requires sets { 16 * width_of steps.now.n ≤ length sets.old }
-    ensures sets { Collected (free steps.now.n (column_of steps.now.pivots.now)) (QuietSet steps.now.n (cell steps.now.rows.now (width_of steps.now.n)) (column_of steps.now.pivots.now)) steps.now.n result (cell sets.new (width_of steps.now.n)) }
-    ensures spans { result ≤ 16 → (A T : Rows) → Tracks steps.now.n A (cell steps.now.rows.now (width_of steps.now.n)) T → Pivots steps.now.n (cell steps.now.rows.now (width_of steps.now.n)) (column_of steps.now.pivots.now) → Spans steps.now.n A result (cell sets.new (width_of steps.now.n)) × OneChoice steps.now.n result (cell sets.new (width_of steps.now.n)) }
+pub fn collect(rows: &[u64], pivots: &[u16], n: u16, sets: &mut [u64]) -> u16
+    requires small { n ≤ 1024 }
+    requires rows { length rows.now ≡ n * width_of n }
+    requires pivots { length pivots.now ≡ n }
+    requires sets { 16 * width_of n ≤ length sets.old }
+    ensures sets { Collected (free n (column_of pivots.now)) (QuietSet n (cell rows.now (width_of n)) (column_of pivots.now)) n result (cell sets.new (width_of n)) }
+    ensures spans { result ≤ 16 → (A T : Rows) → Tracks n A (cell rows.now (width_of n)) T → Pivots n (cell rows.now (width_of n)) (column_of pivots.now) → Spans n A result (cell sets.new (width_of n)) × OneChoice n result (cell sets.new (width_of n)) }
 {
     // as many words as the widest row has: nothing here asks for memory
     let mut columns = [0; 16];
-    mark_pivots(steps, &mut columns);
+    mark_pivots(pivots, n, &mut columns);
     collect_by(
-        steps,
+        n,
         |f| !bits::get(&columns, f),
-        |f, row| quiet_set(steps, f, row),
+        |f, row| quiet_set(rows, pivots, n, f, row),
         sets,
     )
 }
 
 // How many rows are zero; what was done to make the first sixteen is copied into `sets`, one after another.
-pub fn collect_zero(steps: &Steps, sets: &mut [u64]) -> u16
-    requires sets { 16 * width_of steps.now.n ≤ length sets.old }
-    ensures { Collected (zero_row steps.now.n (column_of steps.now.pivots.now)) (Copied (cell steps.now.done.now (width_of steps.now.n))) steps.now.n result (cell sets.new (width_of steps.now.n)) }
+pub fn collect_zero(done: &[u64], pivots: &[u16], n: u16, sets: &mut [u64]) -> u16
+    requires small { n ≤ 1024 }
+    requires done { length done.now ≡ n * width_of n }
+    requires pivots { length pivots.now ≡ n }
+    requires sets { 16 * width_of n ≤ length sets.old }
+    ensures { Collected (zero_row n (column_of pivots.now)) (Copied (cell done.now (width_of n))) n result (cell sets.new (width_of n)) }
 {
+    let width = matrix::width(n);
     collect_by(
-        steps,
-        |i| steps.pivots[i as usize] >= steps.n,
-        |i, row| row.copy_from_slice(steps.made_with(i)),
+        n,
+        |i| pivots[i as usize] >= n,
+        |i, row| row.copy_from_slice(matrix::row(done, width, i as usize)),
         sets,
     )
 }
@@ -160,29 +170,35 @@ fn improve(row: &mut [u64], k: usize, sets: &[u64], against: &Option<&[u64]>)
 }
 
 // From a way, one with the fewest presses, if at most sixteen columns are free; else the same. Returns how many are free.
-pub fn fewest_way(steps: &Steps, way: &mut [u64]) -> u16
-    requires way { length way.old ≡ width_of steps.now.n }
-    ensures { FewestWay steps.now.n (cell steps.now.rows.now (width_of steps.now.n)) (column_of steps.now.pivots.now) way.old way.new result }
+pub fn fewest_way(rows: &[u64], pivots: &[u16], n: u16, way: &mut [u64]) -> u16
+    requires small { n ≤ 1024 }
+    requires rows { length rows.now ≡ n * width_of n }
+    requires pivots { length pivots.now ≡ n }
+    requires way { length way.old ≡ width_of n }
+    ensures { FewestWay n (cell rows.now (width_of n)) (column_of pivots.now) way.old way.new result }
 {
-    let k = steps.zero_rows();
+    let k = echelon::zero_rows(pivots, n);
     if k <= 16 {
         // sixteen rows of the widest
         let mut sets = [0; 256];
-        let _ = collect(steps, &mut sets);
+        let _ = collect(rows, pivots, n, &mut sets);
         improve(way, k as usize, &sets, &None);
     }
     k
 }
 
 // From a set that shows that there is no way, one with the fewest lamps, if at most sixteen rows are zero; else the same. Returns how many are zero.
-pub fn fewest_never(steps: &Steps, lit: &[u64], set: &mut [u64]) -> u16
-    requires lit { length lit.now ≡ width_of steps.now.n }
-    requires set { length set.old ≡ width_of steps.now.n }
-    ensures { Within steps.now.n (bit_of lit.now) → Spare steps.now.n (cell steps.now.done.now (width_of steps.now.n)) → FewestNever steps.now.n (cell steps.now.done.now (width_of steps.now.n)) (column_of steps.now.pivots.now) (bit_of lit.now) set.old set.new result }
+pub fn fewest_never(done: &[u64], pivots: &[u16], n: u16, lit: &[u64], set: &mut [u64]) -> u16
+    requires small { n ≤ 1024 }
+    requires done { length done.now ≡ n * width_of n }
+    requires pivots { length pivots.now ≡ n }
+    requires lit { length lit.now ≡ width_of n }
+    requires set { length set.old ≡ width_of n }
+    ensures { Within n (bit_of lit.now) → Spare n (cell done.now (width_of n)) → FewestNever n (cell done.now (width_of n)) (column_of pivots.now) (bit_of lit.now) set.old set.new result }
 {
     // sixteen rows of the widest
     let mut sets = [0; 256];
-    let k = collect_zero(steps, &mut sets);
+    let k = collect_zero(done, pivots, n, &mut sets);
     if k <= 16 {
         improve(set, k as usize, &sets, &Some(lit));
     }

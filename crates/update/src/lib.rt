@@ -13,15 +13,20 @@ ghost use Rattle.update.specs.Said.{Marked, Taking, Frees, Replaces, Refreshes};
 use echelon::Steps;
 
 // A row that was made with row `l`, a zero row if one was.
-pub fn choose(steps: &Steps, l: u16) -> Option<u16>
-    requires { l < steps.now.n }
-    ensures { Taking steps.now.n (width_of steps.now.n) steps.now.done.now (column_of steps.now.pivots.now) l steps.now.n result }
+// It and the next two touch two of the three slices of `Steps`, and are lent those alone.
+pub fn choose(done: &[u64], pivots: &[u16], n: u16, l: u16) -> Option<u16>
+    requires small { n ≤ 1024 }
+    requires done { length done.now ≡ n * width_of n }
+    requires pivots { length pivots.now ≡ n }
+    requires within { l < n }
+    ensures { Taking n (width_of n) done.now (column_of pivots.now) l n result }
 {
+    let width = matrix::width(n);
     let mut chosen = None;
-    for (i, column) in steps.pivots.iter().enumerate() {
+    for (i, column) in pivots.iter().enumerate() {
         let k = i as u16;
-        if steps.is_made_with(k, l) {
-            if *column >= steps.n {
+        if matrix::has(done, width, i, l) {
+            if *column >= n {
                 return Some(k);
             }
             chosen = Some(k);
@@ -30,35 +35,38 @@ pub fn choose(steps: &Steps, l: u16) -> Option<u16>
     chosen
 }
 
-// Adds row `k` to each other row that was made with row `l`. It is like Steps::clear_column, but for the table that is looked at: each has a definition of its own,
+// Adds row `k` to each other row that was made with row `l`. It is like echelon::clear_column, but for the table that is looked at: each has a definition of its own,
 // and one function of both would have to promise by a test of rows that change.
-pub fn free(steps: &mut Steps, k: u16, l: u16)
-    requires within { k < steps.old.n }
-    requires lamp { l < steps.old.n }
-    ensures frees { Frees steps.old.n (width_of steps.old.n) steps.old.rows.now steps.old.done.now steps.new.rows.now steps.new.done.now k l steps.old.n }
-    ensures pivots { steps.new.pivots.now ≡ steps.old.pivots.now }
-    ensures place { InPlace steps.old steps.new }
+pub fn free(rows: &mut [u64], done: &mut [u64], n: u16, k: u16, l: u16)
+    requires small { n ≤ 1024 }
+    requires rows { length rows.old ≡ n * width_of n }
+    requires done { length done.old ≡ n * width_of n }
+    requires within { k < n }
+    requires lamp { l < n }
+    ensures { Frees n (width_of n) rows.old done.old rows.new done.new k l n }
 {
-    for m in 0..steps.n {
-        if m != k && steps.is_made_with(m, l) {
-            steps.add_row(m, k);
+    let width = matrix::width(n);
+    for m in 0..n {
+        if m != k && matrix::has(done, width, m as usize, l) {
+            echelon::add_row(rows, done, width, m as usize, k as usize);
         }
     }
 }
 
 // Row `k` is `new`, made with row `l` alone.
-pub fn put_row(steps: &mut Steps, k: u16, l: u16, new: &[u64])
-    requires within { k < steps.old.n }
-    requires lamp { l < steps.old.n }
-    requires long { length new.now ≡ width_of steps.old.n }
-    ensures rows { RowPut steps.old.rows.now steps.new.rows.now (width_of steps.old.n) k (bit_of new.now) }
-    ensures done { RowPut steps.old.done.now steps.new.done.now (width_of steps.old.n) k (only l) }
-    ensures pivots { steps.new.pivots.now ≡ steps.old.pivots.now }
-    ensures place { InPlace steps.old steps.new }
+pub fn put_row(rows: &mut [u64], done: &mut [u64], n: u16, k: u16, l: u16, new: &[u64])
+    requires small { n ≤ 1024 }
+    requires rows { length rows.old ≡ n * width_of n }
+    requires done { length done.old ≡ n * width_of n }
+    requires within { k < n }
+    requires lamp { l < n }
+    requires long { length new.now ≡ width_of n }
+    ensures rows { RowPut rows.old rows.new (width_of n) k (bit_of new.now) }
+    ensures done { RowPut done.old done.new (width_of n) k (only l) }
 {
-    let width = steps.width();
-    matrix::write_row(steps.rows, width, k as usize, new);
-    matrix::write_unit(steps.done, width, k as usize, l);
+    let width = matrix::width(n);
+    matrix::write_row(rows, width, k as usize, new);
+    matrix::write_unit(done, width, k as usize, l);
 }
 
 // Replaces row `l` of the system by `new`, and keeps the steps.
@@ -68,9 +76,12 @@ pub fn replace_row(steps: &mut Steps, l: u16, new: &[u64])
     ensures replaces { Replaces steps.old.n (width_of steps.old.n) steps.old.rows.now steps.old.done.now (column_of steps.old.pivots.now) steps.new.rows.now steps.new.done.now (column_of steps.new.pivots.now) l (bit_of new.now) }
     ensures place { InPlace steps.old steps.new }
 {
-    if let Some(k) = choose(steps, l) {
-        free(steps, k, l);
-        put_row(steps, k, l, new);
+    let n = steps.n;
+    let done = &mut *steps.done;
+    let pivots = &mut *steps.pivots;
+    if let Some(k) = choose(done, pivots, n, l) {
+        free(steps.rows, steps.done, n, k, l);
+        put_row(steps.rows, steps.done, n, k, l, new);
         steps.settle(k);
     }
 }

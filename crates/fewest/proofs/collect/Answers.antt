@@ -8,9 +8,9 @@ use Rattle.fewest.proofs.collect.Goals as goal
 
 pub returns : goal.returns
 returns c =
-    let n = c.args.steps.now.n in
-    let R = cell c.args.steps.now.rows.now (width_of n) in
-    let cs = column_of c.args.steps.now.pivots.now in
+    let n = c.args.n in
+    let R = cell c.args.rows.now (width_of n) in
+    let cs = column_of c.args.pivots.now in
     let sets : Collected (free n cs) (QuietSet n R cs) n c.collect_by.result (cell c.collect_by.new.sets (width_of n)) =
     collected_by _ _ _ _ _ _ _ (λ f before after l long said. search rules) (c.collect_by.ensures (free n cs) (λ f b l said. search rules)) in
     record { sets = sets; spans = λ small A T tr pv. (kernel_spans n R cs _ _ sets small A T tr pv, kernel_one n R cs _ _ sets small pv) }

@@ -7,7 +7,7 @@ use Rattle.fewest.proofs.collect_by.Goals.{then-counts, then-k-lt16, else-k-lt16
 
 pub loop-i-preserved : goal.loop-i-preserved
 loop-i-preserved g c =
-    let width = width_of c.args.steps.now.n in
+    let width = width_of c.args.n in
     let inv = c.loop-i.invariant in (
       λ t says. elim c.if-counts.branch [
         | then-counts w ↦ elim w.if-k-lt16.branch [

@@ -5,6 +5,6 @@ use Rattle.fewest.proofs.collect_by.Given as goal
 
 abbrev pub invariant-loop-i : goal.invariant-loop-i
 invariant-loop-i g l =
-    ((t : ℕ → Bool) → ((i : ℕ) (b : Bool) → i < l.steps.n → goal.C-post g l.fn.counts i b → b ≡ t i)
-    → Collected t (Written (width_of l.steps.n) (λ i row row'. goal.W-post g l.fn.write i row tt row')) l.i l.k (cell l.sets (width_of l.steps.n)))
+    ((t : ℕ → Bool) → ((i : ℕ) (b : Bool) → i < l.n → goal.C-post g l.fn.counts i b → b ≡ t i)
+    → Collected t (Written (width_of l.n) (λ i row row'. goal.W-post g l.fn.write i row tt row')) l.i l.k (cell l.sets (width_of l.n)))
     × (l.k ≤ l.i) × (length l.sets ≡ length l.initial.sets)

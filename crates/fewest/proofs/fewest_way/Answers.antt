@@ -12,7 +12,7 @@ returns-then-k-le16 c = record {
   many = free_many _ _ _ _ c.zero_rows-k.ensures;
   kept = λ g. absurd (omega arith);
   fewest = λ small inside A T s tr pv solves.
-      let n = c.args.steps.now.n in
+      let n = c.args.n in
       let same : c.collect.result ≡ c.zero_rows-k.result = c.collect.ensures.sets.many ∙ sym (free_many _ _ _ _ c.zero_rows-k.ensures pv) in
       let spans = subst (λ m. Spans n A m (cell c.collect.new.sets (width_of n))) same (c.collect.ensures.spans (omega (arith, same)) A T tr pv).0 in
       way_fewest _ _ _ A _ s nowhere _ _ _ _ (omega arith) spans solves inside (least_at _ _ _ _ None _ _ _ _ _ c.requires.way c.improve.ensures);

@@ -6,5 +6,5 @@ use Rattle.fewest.proofs.mark_pivots.Given as goal
 
 abbrev pub invariant-loop-column : goal.invariant-loop-column
 invariant-loop-column l =
-    ((j : ℕ) → j < l.steps.n → bit_of l.columns j ≡ taken l.column-index (column_of l.steps.pivots.now) j)
+    ((j : ℕ) → j < l.n → bit_of l.columns j ≡ taken l.column-index (column_of l.pivots) j)
     × (length l.columns ≡ length l.initial.columns)

@@ -6,4 +6,4 @@ use Rattle.fewest.proofs.Building.{Building}
 use Rattle.fewest.proofs.quiet_set.Given as goal
 
 abbrev pub invariant-loop-i : goal.invariant-loop-i
-invariant-loop-i l = Building l.steps.n (cell l.steps.rows.now (width_of l.steps.n)) (column_of l.steps.pivots.now) l.f (bit_of l.out) l.i × (length l.out ≡ width_of l.steps.n)
+invariant-loop-i l = Building l.n (cell l.rows (width_of l.n)) (column_of l.pivots) l.f (bit_of l.out) l.i × (length l.out ≡ width_of l.n)

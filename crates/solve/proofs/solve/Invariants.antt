@@ -8,5 +8,5 @@ use Rattle.solve.proofs.solve.Given as goal
 
 abbrev pub invariant-loop-i : goal.invariant-loop-i
 invariant-loop-i l =
-    Placing l.steps.n (column_of l.steps.pivots.now) (act (64 * width_of l.steps.n) (cell l.steps.done.now (width_of l.steps.n)) (bit_of l.lit)) (bit_of l.out) l.i
-    × (length l.out ≡ width_of l.steps.n)
+    Placing l.n (column_of l.pivots) (act (64 * width_of l.n) (cell l.done (width_of l.n)) (bit_of l.lit)) (bit_of l.out) l.i
+    × (length l.out ≡ width_of l.n)
