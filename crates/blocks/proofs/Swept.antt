@@ -1,5 +1,5 @@
 -- The block's pivots are cleared from each other row by one row of the table. Assumes nothing.
-use Rattle.std.proofs.Common.{◌≡◌, ℕ, ◌+◌, ◌-◌, ◌*◌, ◌^◌, ◌<◌, ◌≤◌, false, ◌&&◌, ltb, ◌⊎◌, List, [], ◌++◌, length, drop, length-append, sym, refl, ap, ◌∙◌, subst, ap₂, length-take, inl, inr, arith, pow_mono}
+use Rattle.std.proofs.Common.{◌≡◌, ℕ, ◌+◌, ◌*◌, ◌^◌, ◌<◌, ◌≤◌, false, ◌&&◌, ltb, ◌⊎◌, List, [], ◌++◌, length, length-append, sym, refl, ap, ◌∙◌, subst, inl, inr, arith, pow_mono}
 use mathlib.Core.Path.{fun_ext}
 use Rattle.std.proofs.lemmas.Bool.{cases_eq}
 use Rattle.std.proofs.lemmas.Nat.{mul-le}
@@ -8,29 +8,27 @@ use Rattle.gf2.specs.Blocks.{Sweeps}
 use Rattle.gf2.proofs.Parity.{differ_false}
 use Rattle.gf2.proofs.Rows.{dot_none}
 use Rattle.gf2.proofs.Blocks.{place, tracks_sweep}
-use Rattle.matrix.specs.Cells.{width_of, cell, Spare}
+use Rattle.matrix.specs.Cells.{cell, Spare}
 use Rattle.matrix.specs.Said.{RowPut}
 use Rattle.matrix.proofs.Memory.{other_cells}
-use Rattle.echelon.specs.declared.steps.Steps.{Steps}
 use Rattle.echelon.specs.Steps.{column_of, Kept}
-use Rattle.echelon.specs.Places.{InPlace}
-use Rattle.blocks.specs.Said.{block_of, number, hits, entry_of, asked, Tabled, Swept}
+use Rattle.blocks.specs.Said.{number, hits, entry_of, Tabled, Swept}
 use Rattle.blocks.proofs.Table.{number_below, tabled_nothing}
 
 -- ---- one turn of the loop over the rows
 
 -- a block has at most six rows, and its table at most sixty-four
-pub read_below : (n width : ℕ) (ws rest read cs : List ℕ) (first end i : ℕ) → end - first ≤ 6 → rest ++ read ≡ block_of cs first end → entry_of n width ws read i < 64
-read_below n width ws rest read cs first end i few all =
+pub read_below : (n width : ℕ) (ws rest read columns : List ℕ) (i : ℕ) → length columns ≤ 6 → rest ++ read ≡ columns → entry_of n width ws read i < 64
+read_below n width ws rest read columns i few all =
     let below = number_below (hits n width ws read i) (length read) in
     let long = simp length-append at (ap length all) in
-    let most : 2 ^ length read ≤ 2 ^ 6 = pow_mono {i = length read} {j = 6} (omega (arith, long, length-take (end - first) (drop first cs))) in
+    let most : 2 ^ length read ≤ 2 ^ 6 = pow_mono {i = length read} {j = 6} (omega (arith, long)) in
     omega arith
 
 -- and so the row that is asked for is within the table
-pub asked_row : (s : Steps) (first end i e width : ℕ) → end - first ≤ 6 → e ≡ asked s first end i → width ≤ 16 → e * width + width ≤ 1024
-asked_row s first end i e width few is narrow =
-    let below = read_below s.n (width_of s.n) s.rows.now [] (block_of s.pivots.now first end) s.pivots.now first end i few refl in
+pub entry_row : (n width : ℕ) (ws columns : List ℕ) (i e : ℕ) → length columns ≤ 6 → e ≡ entry_of n width ws columns i → width ≤ 16 → e * width + width ≤ 1024
+entry_row n width ws columns i e few is narrow =
+    let below = read_below n width ws [] columns columns i few refl in
     let most = mul-le (e + 1) width 64 16 (omega (arith, is)) narrow in
     omega arith
 
@@ -39,12 +37,6 @@ pub same_entry : (n width : ℕ) (ws ws' columns : List ℕ) (i : ℕ) → ((j :
     → entry_of n width ws' columns i ≡ entry_of n width ws columns i
 same_entry n width ws ws' columns i same =
     ap (λ w. number w (length columns)) (fun_ext (λ b. ap (λ x. ltb (column_of columns b) n && x) (same (column_of columns b))))
-
-pub asked_same : (s₀ s : Steps) (first end i : ℕ) → InPlace s₀ s → s.pivots.now ≡ s₀.pivots.now
-    → ((j : ℕ) → cell s.rows.now (width_of s₀.n) i j ≡ cell s₀.rows.now (width_of s₀.n) i j) → asked s first end i ≡ asked s₀ first end i
-asked_same s₀ s first end i place pivots same =
-    ap₂ (λ n cs. entry_of n (width_of n) s.rows.now (block_of cs first end) i) place.n pivots
-    ∙ same_entry s₀.n (width_of s₀.n) s₀.rows.now s.rows.now (block_of s₀.pivots.now first end) i same
 
 module _ (width : ℕ) (old mid table : List ℕ) (e : ℕ → ℕ) (low m : ℕ) (g : low ≤ m) (so_far : Swept width old mid table e low m) where
   earlier : (i : ℕ) → (i < low) ⊎ (m + 1 ≤ i) → (i < low) ⊎ (m ≤ i)

@@ -8,7 +8,7 @@ ghost use Rattle.matrix.specs.Cells.{width_of, cell};
 ghost use Rattle.matrix.specs.Said.{RowPut};
 ghost use Rattle.echelon.specs.Steps.{column_of, InSteps};
 ghost use Rattle.echelon.specs.Places.{InPlace};
-ghost use Rattle.blocks.specs.Said.{asked, NextRow, Tabled, Doubled, Swept, BlockSettles, BlockReduces};
+ghost use Rattle.blocks.specs.Said.{block_of, entry_of, asked, NextRow, Tabled, Doubled, Swept, BlockSettles, BlockReduces};
 
 use echelon::Steps;
 
@@ -120,24 +120,55 @@ impl Tables {
     }
 }
 
-// The number whose binary digits say which pivots of the block's rows row `i` has set.
-fn entry(steps: &Steps, block: Block, i: u16) -> usize
-    requires within { block.end ≤ steps.now.n }
-    requires row { i < steps.now.n }
-    ensures { result ≡ asked steps.now block.first block.end i }
+// The number whose binary digits say which of the columns row `i` has set. Slices and not `Steps` here and in `sweep_rows`, where most of the time goes: in a struct
+// that is lent, where they lie and how wide a row is would be read anew for each row and each column, a quarter of the time again.
+fn entry(rows: &[u64], columns: &[u16], width: usize, n: u16, i: usize) -> usize
+    requires few { length columns.now ≤ 6 }
+    requires wide { n ≤ 64 * width }
+    requires row { i * width + width ≤ length rows.now }
+    ensures { result ≡ entry_of n width rows.now columns.now i }
 {
     let mut e = 0;
-    for column in steps.pivots[block.first as usize..block.end as usize]
-        .iter()
-        .rev()
-    {
+    for column in columns.iter().rev() {
         e *= 2;
-        if *column < steps.n {
+        if *column < n {
             // added, and not tested by an `if`: the bits are as good as random, and a branch on them is guessed wrong half the time
-            e += usize::from(steps.has(i, *column));
+            e += usize::from(matrix::has(rows, width, i, *column));
         }
     }
     e
+}
+
+// Adds to each row from `low` to `high`, and to what was done to it, the sum that has the same bits in the block's pivots.
+fn sweep_rows(
+    rows: &mut [u64],
+    done: &mut [u64],
+    pivots: &[u16],
+    n: u16,
+    tables: &Tables,
+    block: Block,
+    low: u16,
+    high: u16,
+)
+    requires small { n ≤ 1024 }
+    requires rows { length rows.old ≡ n * width_of n }
+    requires done { length done.old ≡ n * width_of n }
+    requires pivots { length pivots.now ≡ n }
+    requires within { block.end ≤ n }
+    requires low { low ≤ high }
+    requires high { high ≤ n }
+    ensures rows { Swept (width_of n) rows.old rows.new tables.now.rows (entry_of n (width_of n) rows.old (block_of pivots.now block.first block.end)) low high }
+    ensures done { Swept (width_of n) done.old done.new tables.now.done (entry_of n (width_of n) rows.old (block_of pivots.now block.first block.end)) low high }
+{
+    let width = matrix::width(n);
+    let columns = &pivots[block.first as usize..block.end as usize];
+    for i in low as usize..high as usize {
+        let e = entry(rows, columns, width, n, i);
+        if e != 0 {
+            add_entry(rows, &tables.rows, width, i, e);
+            add_entry(done, &tables.done, width, i, e);
+        }
+    }
 }
 
 // Adds to each row from `low` to `high` the sum that has the same bits in the block's pivots.
@@ -150,14 +181,9 @@ fn sweep(steps: &mut Steps, tables: &Tables, block: Block, low: u16, high: u16)
     ensures pivots { steps.new.pivots.now ≡ steps.old.pivots.now }
     ensures place { InPlace steps.old steps.new }
 {
-    let width = steps.width();
-    for i in low..high {
-        let e = entry(steps, block, i);
-        if e != 0 {
-            add_entry(steps.rows, &tables.rows, width, i as usize, e);
-            add_entry(steps.done, &tables.done, width, i as usize, e);
-        }
-    }
+    let n = steps.n;
+    let pivots = &mut *steps.pivots;
+    sweep_rows(steps.rows, steps.done, pivots, n, tables, block, low, high);
 }
 
 // Each row of the block takes its first bit as its pivot, which is cleared from the block's other rows, or is zero.
