@@ -1,14 +1,12 @@
 -- What is read off rows in steps. Assumes nothing.
-use Rattle.std.proofs.Common.{◌≡◌, ℕ, ◌+◌, ◌<◌, Bool, true, false, leb, List, [], ◌∷◌, length, cond, count_by, Decides, sym, ap, refl, ◌∙◌, inl, inr, add-one, arith}
+use Rattle.std.proofs.Common.{◌≡◌, ℕ, ◌+◌, ◌<◌, leb, Decides, sym, ap, ◌∙◌, inl, inr, add-one}
 use mathlib.Core.Bool.{false≢true}
 use Rattle.std.proofs.lemmas.Bool.{cases_lt, cases_Bool, le-leb, lt-leb}
-use Rattle.std.proofs.lemmas.List.Sums.{sum_by-cons}
 use Rattle.gf2.specs.Rows.{Row, Rows, Same, nowhere, one, tally}
 use Rattle.gf2.specs.Reduction.{Pivots}
-use Rattle.gf2.proofs.Tally.{tally_cong, tally_first}
+use Rattle.gf2.proofs.Tally.{tally_cong}
 use Rattle.gf2.proofs.Tracks.{quiet_down, quiet_up}
 use Rattle.gf2.proofs.Count.{as_many_free}
-use Rattle.echelon.specs.Steps.{column_of}
 use Rattle.echelon.specs.Laws.{SameQuiet, ZeroRows}
 
 pub same_quiet : SameQuiet
@@ -34,17 +32,3 @@ zero_rows n c k is = record {
 -- one row more is counted
 pub tally_more : (f : Row) (i : ℕ) → tally f (i + 1) ≡ one (f i) + tally f i
 tally_more f i = ap (tally f) (add-one i)
-
--- how many columns pass a test, counted row by row
-pub count_columns : (p : ℕ → Bool) (cs : List ℕ) → count_by p cs ≡ tally (λ i. p (column_of cs i)) (length cs)
-count_columns p [] = refl
-count_columns p (x ∷ cs) =
-    let front = sum_by-cons (λ y. cond (p y) 1 0) x cs in
-    let rest = count_columns p cs in
-    let first = tally_first (λ i. p (column_of (x ∷ cs) i)) (length cs) in
-    let same = as_one (p x) in
-    omega (arith, front, rest, first, same)
-  where
-    as_one : (b : Bool) → cond b 1 0 ≡ one b
-    as_one true = refl
-    as_one false = refl
