@@ -19,10 +19,10 @@ impl fmt::Display for LampSet {
     ghost output = { λ s. Some (shown (listed s.count (bit_of s.row))) };
 
     fn fmt<W: fmt::Write>(&self, f: &mut fmt::Formatter<W>) -> fmt::Result {
+        let mut digits = [b'0'; 64];
         for i in 0..self.count {
-            let digit = u8::from(bits::get(&self.row, i));
-            write!(f, "{digit}")?;
+            digits[i as usize] = b'0' + u8::from(bits::get(&self.row, i));
         }
-        Ok(())
+        f.write_str(str::from_utf8(&digits[..self.count as usize]).unwrap())
     }
 }

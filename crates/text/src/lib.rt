@@ -18,9 +18,15 @@ pub fn answers(heap: Global, text: &[u8]) -> Result<String, AllocError>
 {
     let mut wall = Wall::new();
     let mut out = String::new(heap);
-    for line in text.split(|byte| *byte == b'\n') {
-        let reply = wall.answer_line(line);
+    let mut rest = Some(text);
+    while let Some(lines) = rest {
+        let end = lines
+            .iter()
+            .position(|byte| *byte == b'\n')
+            .unwrap_or(lines.len());
+        let reply = wall.answer_line(&lines[..end]);
         write!(out, "{reply}")?;
+        rest = lines.get(end + 1..);
     }
     Ok(out)
 }
