@@ -14,17 +14,17 @@ mod small;
 use claims::Verdict;
 use lines::{Claim, Refusal};
 pub use reply::Reply;
-use small::SmallBoard;
+pub use small::SmallBoard;
 use std::alloc::{AllocError, Global};
 use std::fmt::Write;
 
 // A line that needs a board can't be read where there is none.
 const NO_BOARD: Refusal = Refusal::Unreadable(0);
 
-// The board that there is, or none yet.
-#[derive(Drop)]
+// The board that there is, or none yet. Whoever has a board and its words begins with those, and finds them here afterwards.
+#[derive(Clone, Copy, PartialEq, Eq, Debug)]
 pub struct Checker {
-    board: Option<SmallBoard>,
+    pub board: Option<SmallBoard>,
 }
 
 impl Checker {
@@ -52,7 +52,10 @@ impl Checker {
         match claim {
             Claim::Nothing => Ok(None),
             Claim::Lamps(n) => {
-                self.board = Some(SmallBoard::new(n)?);
+                match &mut self.board {
+                    None => self.board = Some(SmallBoard::new(n)?),
+                    Some(board) => board.open(n)?,
+                }
                 Ok(None)
             }
             Claim::Wire(i, j) => {
@@ -100,9 +103,15 @@ pub fn verdicts(heap: Global, text: &[u8]) -> Result<String, AllocError>
 {
     let mut checker = Checker::new();
     let mut out = String::new(heap);
-    for line in text.split(|byte| *byte == b'\n') {
-        let reply = checker.take_line(line);
+    let mut rest = Some(text);
+    while let Some(lines) = rest {
+        let end = lines
+            .iter()
+            .position(|byte| *byte == b'\n')
+            .unwrap_or(lines.len());
+        let reply = checker.take_line(&lines[..end]);
         write!(out, "{reply}")?;
+        rest = lines.get(end + 1..);
     }
     Ok(out)
 }

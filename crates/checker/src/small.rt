@@ -1,5 +1,5 @@
 // A board that claims are about.
-ghost use Rattle.std.specs.Prelude.{◌≡◌, ◌≢◌, ◌<◌, ◌≤◌, List, false, true, length, take, MatchResult};
+ghost use Rattle.std.specs.Prelude.{◌≡◌, ◌≢◌, ◌<◌, ◌≤◌, List, [], false, true, length, take, MatchResult};
 ghost use Rattle.lamps.specs.Lamps.{Wire};
 ghost use Rattle.lamps.specs.Calls.{Board as Wall, rewired, wires as wires_call, turns};
 ghost use Rattle.lamps.specs.Promise.{new_board};
@@ -15,12 +15,12 @@ use claims::Verdict;
 use wires::Board;
 
 // A board of at most 64 lamps: a word of wires for each lamp, and a word of what is lit. There is room for 64, so that none is asked for.
-#[derive(Drop)]
+#[derive(Clone, Copy, PartialEq, Eq, Debug)]
 pub struct SmallBoard {
-    board: Board,
-    wires: [u64; 64],
-    lit: [u64; 1],
-    ghost few: { board.lamps ≤ 64 },
+    pub board: Board,
+    pub wires: [u64; 64],
+    pub lit: [u64; 1],
+    pub ghost few: { board.lamps ≤ 64 },
 }
 
 // The wire between two lamps comes or goes, in the words that the board has of these. By itself, since no part of a field can be lent from a struct that keeps a fact.
@@ -34,31 +34,57 @@ fn toggle(board: Board, wires: &mut [u64; 64], i: u16, j: u16)
     wires::toggle(board, &mut wires[..board.lamps as usize], i, j);
 }
 
+// Takes away every wire, in the words that the board has of these. By itself, as `toggle` is.
+fn clear(board: Board, wires: &mut [u64; 64])
+    requires few { board.lamps ≤ 64 }
+    ensures { HoldsWires board.lamps (take board.lamps wires.new) [] }
+{
+    wires::no_wires(board, &mut wires[..board.lamps as usize]);
+}
+
+// A board of `n` lamps, if that is 1 to 64.
+fn sized(n: u16) -> Result<Board, Refusal>
+    ensures { MatchResult result (λ board. (serves n ≡ true) × (board.lamps ≡ n)) (λ why. (serves n ≡ false) × (why ≡ BadSize)) }
+{
+    if n > 64 {
+        return Err(Refusal::BadSize);
+    }
+    Board::new(n).ok_or(Refusal::BadSize)
+}
+
 impl SmallBoard {
     // A new board of `n` lamps, if that is 1 to 64.
-    pub fn new(n: u16) -> Result<SmallBoard, Refusal>
+    pub(crate) fn new(n: u16) -> Result<SmallBoard, Refusal>
         ensures { MatchResult result (λ c. (serves n ≡ true) × Holding c.board.lamps c.wires c.lit (new_board n)) (λ why. (serves n ≡ false) × (why ≡ BadSize)) }
     {
-        if n > 64 {
-            return Err(Refusal::BadSize);
-        }
-        let board = Board::new(n).ok_or(Refusal::BadSize)?;
+        let board = sized(n)?;
         let mut wires = [0; 64];
         let mut lit = [0; 1];
-        wires::no_wires(board, &mut wires[..n as usize]);
+        clear(board, &mut wires);
         lit::lights_out(board, &mut lit);
         Ok(SmallBoard { board, wires, lit })
     }
 
+    // Becomes a new board of `n` lamps, if that is 1 to 64: in place, since a board is large to move.
+    pub(crate) fn open(&mut self, n: u16) -> Result<(), Refusal>
+        ensures { MatchResult result (λ u. (serves n ≡ true) × Holding self.new.board.lamps self.new.wires self.new.lit (new_board n)) (λ why. (serves n ≡ false) × (why ≡ BadSize) × (self.new ≡ self.old)) }
+    {
+        let board = sized(n)?;
+        clear(board, &mut self.wires);
+        lit::lights_out(board, &mut self.lit);
+        self.board = board;
+        Ok(())
+    }
+
     // How many lamps it has.
-    pub fn lamps(&self) -> u16
+    pub(crate) fn lamps(&self) -> u16
         ensures { result ≡ self.now.board.lamps }
     {
         self.board.lamps
     }
 
     // The wire between two lamps comes or goes.
-    pub fn wire(&mut self, i: u16, j: u16) -> Result<(), Refusal>
+    pub(crate) fn wire(&mut self, i: u16, j: u16) -> Result<(), Refusal>
         ensures { (b : Wall) → Holding self.old.board.lamps self.old.wires self.old.lit b → Called self.new.board.lamps self.new.wires self.new.lit b (wires_call i j) (reply_to result) }
     {
         let n = self.board.lamps;
@@ -73,7 +99,7 @@ impl SmallBoard {
     }
 
     // A lamp is turned on or off.
-    pub fn turn(&mut self, i: u16) -> Result<(), Refusal>
+    pub(crate) fn turn(&mut self, i: u16) -> Result<(), Refusal>
         ensures { (b : Wall) → Holding self.old.board.lamps self.old.wires self.old.lit b → Called self.new.board.lamps self.new.wires self.new.lit b (turns i) (reply_to result) }
     {
         if i >= self.board.lamps {
@@ -84,7 +110,7 @@ impl SmallBoard {
     }
 
     // Checks the claim that these presses put out what is lit.
-    pub fn check_presses(&self, presses: u64) -> Verdict
+    pub(crate) fn check_presses(&self, presses: u64) -> Verdict
         ensures { (b : Wall) → Holding self.now.board.lamps self.now.wires self.now.lit b → PressesChecked b.wires_there b.on (set_in (length b.on) presses) result }
     {
         let wires = &self.wires[..self.board.lamps as usize];
@@ -92,7 +118,7 @@ impl SmallBoard {
     }
 
     // Checks the claim that these lamps show that nothing puts out what is lit.
-    pub fn check_never(&self, set: u64) -> Verdict
+    pub(crate) fn check_never(&self, set: u64) -> Verdict
         ensures { (b : Wall) → Holding self.now.board.lamps self.now.wires self.now.lit b → NeverChecked b.wires_there b.on (set_in (length b.on) set) result }
     {
         let wires = &self.wires[..self.board.lamps as usize];

@@ -1,24 +1,29 @@
-use Rattle.std.proofs.Common.{None, ap, ◌∙◌, sym, subst₂, rules, eqb, subst, string_bytes}
-use Rattle.std.proofs.lemmas.List.{map-append}
-use Rattle.std.specs.Slice.Iter.{split_rest, split_done, split_callee}
-use Rattle.std.proofs.lemmas.Iterator.Splits.{YieldsList-from_slice_split}
-use Rattle.std.proofs.lemmas.Iterator.Consumers.{YieldsList-end}
-use Rattle.lines.proofs.Cut.{lines_split}
-use Rattle.checker.specs.Texts.{Verdicts}
-use Rattle.checker.proofs.Going.{Going, going_on, going_done}
+use Rattle.std.proofs.Common.{◌+◌, ◌<◌, [], ◌∙◌, Some, subst, sym, ap, eqb, arith, rules}
+use Rattle.std.proofs.lemmas.Iterator.{YieldsList-from_slice}
+use Rattle.std.proofs.lemmas.Iterator.Search.{position_from_yields_List}
+use Rattle.lines.specs.Texts.{lines_from}
+use Rattle.lines.proofs.Cut.{lines_left, size_left, cut_at, less_left}
+use Rattle.checker.proofs.Going.{Going, going_from, going_on, going_done}
 use Rattle.checker.proofs.verdicts.Goals as goal
 
-pub loop-line-preserved : goal.loop-line-preserved
-loop-line-preserved c =
-    let g = c.loop-line.invariant in
-    subst₂ (λ lines out. Going lines c.take_line-reply.new.self.board out) (sym (map-append (λ line. line.now) c.loop-line.yielded _)) (sym c.in_ok-write.ensures.bytes)
-    (going_on _ _ _ g c.in-Some.line.now c.take_line-reply.result _ (c.take_line-reply.ensures g.model g.held))
+pub loop-rest-init : goal.loop-rest-init
+unfolding lines_left
+loop-rest-init c = subst (Going (lines_from [] c.args.text.now) (lines_left (Some c.args.text)) c.new-checker.result.board) (sym c.new-out.ensures.bytes) (going_from _ _ c.new-checker.ensures)
+
+pub loop-rest-smaller : goal.loop-rest-smaller
+loop-rest-smaller c =
+    subst (λ rest. size_left c.get-rest.result < size_left rest) (sym c.in-Some.is) (less_left c.in-Some.lines (c.unwrap_or-end.result + 1) c.get-rest.result (omega arith) c.get-rest.ensures.lookup.0)
+
+pub loop-rest-preserved : goal.loop-rest-preserved
+unfolding lines_left
+loop-rest-preserved c =
+    let lines = c.in-Some.lines.now in
+    let found = position_from_yields_List (λ b. eqb b 10) _ _ _ c.position.ensures.ran (YieldsList-from_slice lines cc) (λ x b q k. search rules) in
+    let cut = ap lines_left c.in-Some.is ∙ cut_at lines _ _ _ found c.unwrap_or-end.ensures c.get-rest.ensures.lookup.0 in
+    let g = c.loop-rest.invariant in
+    subst (Going (lines_from [] c.args.text.now) (lines_left c.get-rest.result) c.take_line-reply.new.self.board) (sym c.in_ok-write.ensures.bytes)
+    (going_on g _ _ _ _ cut (c.take_line-reply.ensures g.model g.held))
 
 pub returns : goal.returns
-returns c =
-    let made = c.into_iter-line-iterator.ensures.into_iter_gives in
-    let split = c.split-line-items.ensures in
-    let whole = YieldsList-end
-    (YieldsList-from_slice_split _ (λ b. eqb b 10) c.args.text.now (ap split_rest made ∙ split.rest) (ap split_done made ∙ split.done) (ap split_callee made ∙ split.closure) (λ x b q k. search rules))
-    c.loop-line.yielded _ c.loop-line.yielded_by _ _ c.in-None.is c.next.ensures.steps in
-    subst (λ lines. Verdicts None lines (string_bytes c.loop-line.out)) (whole.0 ∙ sym (lines_split c.args.text.now)) (going_done _ _ _ c.loop-line.invariant)
+unfolding lines_left
+returns c = going_done c.loop-rest.invariant (ap lines_left c.in_default.is)

@@ -1,6 +1,11 @@
-use Rattle.std.proofs.Common.{map, string_bytes}
+use Rattle.std.proofs.Common.{[], string_bytes}
+use Rattle.lines.specs.Texts.{lines_from}
+use Rattle.lines.proofs.Cut.{lines_left, size_left}
 use Rattle.checker.proofs.Going.{Going}
 use Rattle.checker.proofs.verdicts.Given as goal
 
-abbrev pub invariant-loop-line : goal.invariant-loop-line
-invariant-loop-line l = Going (map (λ line. line.now) l.yielded) l.checker.board (string_bytes l.out)
+abbrev pub invariant-loop-rest : goal.invariant-loop-rest
+invariant-loop-rest l = Going (lines_from [] l.text) (lines_left l.rest) l.checker.board (string_bytes l.out)
+
+abbrev pub decreases-loop-rest : goal.decreases-loop-rest
+decreases-loop-rest l = size_left l.rest
